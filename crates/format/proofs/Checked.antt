@@ -1,0 +1,218 @@
+-- Questions 1 to 13 as facts: an image gets a yes throughout exactly when it has them.
+-- Assumes nothing.
+use mathlib.Core.Path.{_≡_, refl, sym, _∙_}
+use mathlib.Core.Bool.{Bool, true, false, _&&_, cond}
+use mathlib.Core.Option.{none}
+use mathlib.Core.List.{List, _++_, map, flatMap}
+use Prim.Native.Nat.{ℕ, zero, suc, _+_, _*_, _≤_, _<_}
+use native.Mathlib.Omega.{arith}
+use native.Mathlib.Decide.{ℕ-discrete}
+use lib.Dec.{leb, eqb}
+use borrow.Author.Tests.{eqb-true, leb-true, ltb-true, eq-eqb, ne-eqb, le-leb, lt-ltb}
+use lib.ListN.{length, getD, take, drop}
+use Rattle.format.specs.Seq.{All, every, numbersFrom, total, upTo}
+use Rattle.format.specs.Page.{firstSubtries, nodeCount, numberAt}
+use Rattle.format.specs.Image.{bands, keyCount, outLinkCount, pageB, pageCount, pageLevels, pageNodes, pagePairs, pageRoots, pageT, rootCount}
+use Rattle.format.specs.Question.{Yes, bandQuestions, countsFit, firstNo, headRight, headerQuestions, imageQuestions, isPositive, isZero, markRight, outLinksDue, pageNeeded, pageQuestions}
+use Rattle.format.proofs.Lists.{and-left, and-right, and-both, all-append, all-left, all-right, all-flatMap, flatMap-all, all-upTo, upTo-all, all-numbers, numbers-all, every-all, all-every}
+use Rattle.format.proofs.Questions.{yes-of-none, none-of-yes}
+use Rattle.format.proofs.Bytes.{all-zero, zero-all}
+
+-- 1 to 13 all get a yes
+abbrev pub AllYes : List ℕ → Type 0
+AllYes img = firstNo (imageQuestions img) ≡ none
+
+-- ---- 1 to 7
+
+-- 7
+pub data Counts (img : List ℕ) : Type 0 where
+  no-keys : keyCount img ≡ 0 → ((b : ℕ) → 1 ≤ b → b ≤ 8 → (pageCount img b ≡ 0) × (rootCount img b ≡ 0)) → Counts img
+  some-keys : 1 ≤ keyCount img → pageCount img 1 ≡ 1 → rootCount img 1 ≡ 1 → ((b : ℕ) → 2 ≤ b → b ≤ 8 → (1 ≤ pageCount img b) × (1 ≤ rootCount img b)) → Counts img
+
+pub record Header (img : List ℕ) : Type 0 where
+  pub long : 64 ≤ length img
+  pub mark₀ : getD img 0 0 ≡ 0x4C
+  pub mark₁ : getD img 1 0 ≡ 0x50
+  pub mark₂ : getD img 2 0 ≡ 0x54
+  pub version : numberAt img 3 ≡ 1
+  pub few : keyCount img ≤ 4096
+  pub five : getD img 5 0 ≡ 0
+  pub tail : All (λ z. z ≡ 0) (take 24 (drop 40 img))
+  pub size : length img ≡ 64 * (1 + total (map (pageCount img) bands))
+  pub counts : Counts img
+
+zeros-in : (img : List ℕ) (b : ℕ) → isZero (pageCount img b) && isZero (rootCount img b) ≡ true → (pageCount img b ≡ 0) × (rootCount img b ≡ 0)
+unfolding isZero
+zeros-in img b e =
+    (eqb-true (pageCount img b) 0 (and-left (eqb (pageCount img b) 0) (eqb (rootCount img b) 0) e), eqb-true (rootCount img b) 0 (and-right (eqb (pageCount img b) 0) (eqb (rootCount img b) 0) e))
+
+some-in : (img : List ℕ) (b : ℕ) → isPositive (pageCount img b) && isPositive (rootCount img b) ≡ true → (1 ≤ pageCount img b) × (1 ≤ rootCount img b)
+unfolding isPositive
+some-in img b e =
+    (leb-true 1 (pageCount img b) (and-left (leb 1 (pageCount img b)) (leb 1 (rootCount img b)) e), leb-true 1 (rootCount img b) (and-right (leb 1 (pageCount img b)) (leb 1 (rootCount img b)) e))
+
+module _ {A : Type 0} where
+  pub cond-yes : (t : Bool) (a b : A) → t ≡ true → cond t a b ≡ a
+  cond-yes t a b e = rw e
+
+  pub cond-no : (t : Bool) (a b : A) → t ≡ false → cond t a b ≡ b
+  cond-no t a b e = rw e
+
+abbrev allZero : List ℕ → ℕ → Bool
+allZero img b = isZero (pageCount img b) && isZero (rootCount img b)
+
+abbrev allSome : List ℕ → ℕ → Bool
+allSome img b = isPositive (pageCount img b) && isPositive (rootCount img b)
+
+abbrev ones : List ℕ → Bool
+ones img = eqb (pageCount img 1) 1 && eqb (rootCount img 1) 1
+
+counts-of : (img : List ℕ) → countsFit img ≡ true → Counts img
+unfolding countsFit isZero bands
+counts-of img h =
+    elim (ℕ-discrete (keyCount img) 0) [
+      | yes e ↦ let k : every (allZero img) (numbersFrom 1 8) ≡ true = sym (cond-yes (eqb (keyCount img) 0) _ _ (eq-eqb (keyCount img) 0 e)) ∙ h in
+          no-keys e (λ b lo hi. zeros-in img b (numbers-all (λ b. allZero img b ≡ true) 1 8 (every-all (allZero img) (numbersFrom 1 8) k) b lo (omega arith)))
+      | no e ↦ let k : ones img && every (allSome img) (numbersFrom 2 7) ≡ true = sym (cond-no (eqb (keyCount img) 0) _ _ (ne-eqb (keyCount img) 0 e)) ∙ h in
+          let o : ones img ≡ true = and-left (ones img) (every (allSome img) (numbersFrom 2 7)) k in
+          let s : every (allSome img) (numbersFrom 2 7) ≡ true = and-right (ones img) (every (allSome img) (numbersFrom 2 7)) k in
+          some-keys (omega arith) (eqb-true _ 1 (and-left (eqb (pageCount img 1) 1) (eqb (rootCount img 1) 1) o)) (eqb-true _ 1 (and-right (eqb (pageCount img 1) 1) (eqb (rootCount img 1) 1) o))
+          (λ b lo hi. some-in img b (numbers-all (λ b. allSome img b ≡ true) 2 7 (every-all (allSome img) (numbersFrom 2 7) s) b lo (omega arith)))
+    ]
+
+of-counts : (img : List ℕ) → Counts img → countsFit img ≡ true
+unfolding countsFit isZero isPositive bands
+of-counts img (no-keys e f) =
+    cond-yes (eqb (keyCount img) 0) _ _ (eq-eqb (keyCount img) 0 e)
+    ∙ all-every (allZero img) (numbersFrom 1 8) (all-numbers (λ b. allZero img b ≡ true) 1 8 (λ b lo hi. and-both (eq-eqb (pageCount img b) 0 (f b lo (omega arith) .0)) (eq-eqb (rootCount img b) 0 (f b lo (omega arith) .1))))
+of-counts img (some-keys h p r f) =
+    cond-no (eqb (keyCount img) 0) _ _ (ne-eqb (keyCount img) 0 (λ e. omega arith))
+    ∙ and-both (and-both (eq-eqb (pageCount img 1) 1 p) (eq-eqb (rootCount img 1) 1 r))
+    (all-every (allSome img) (numbersFrom 2 7) (all-numbers (λ b. allSome img b ≡ true) 2 7 (λ b lo hi. and-both (le-leb 1 (pageCount img b) (f b lo (omega arith) .0)) (le-leb 1 (rootCount img b) (f b lo (omega arith) .1)))))
+
+header-of : (img : List ℕ) → All Yes (headerQuestions img) → Header img
+unfolding headerQuestions markRight isZero
+header-of img h =
+    let m = h .1 .0 in
+    let m₀₁ = and-left (eqb (getD img 0 0) 0x4C && eqb (getD img 1 0) 0x50) (eqb (getD img 2 0) 0x54) m in
+    record {
+      long = leb-true 64 (length img) (h .0);
+      mark₀ = eqb-true (getD img 0 0) 0x4C (and-left (eqb (getD img 0 0) 0x4C) (eqb (getD img 1 0) 0x50) m₀₁);
+      mark₁ = eqb-true (getD img 1 0) 0x50 (and-right (eqb (getD img 0 0) 0x4C) (eqb (getD img 1 0) 0x50) m₀₁);
+      mark₂ = eqb-true (getD img 2 0) 0x54 (and-right (eqb (getD img 0 0) 0x4C && eqb (getD img 1 0) 0x50) (eqb (getD img 2 0) 0x54) m);
+      version = eqb-true (numberAt img 3) 1 (h .1 .1 .0);
+      few = leb-true (keyCount img) 4096 (h .1 .1 .1 .0);
+      five = eqb-true (getD img 5 0) 0 (and-left (eqb (getD img 5 0) 0) (every isZero (take 24 (drop 40 img))) (h .1 .1 .1 .1 .0));
+      tail = all-zero (take 24 (drop 40 img)) (and-right (eqb (getD img 5 0) 0) (every isZero (take 24 (drop 40 img))) (h .1 .1 .1 .1 .0));
+      size = eqb-true (length img) _ (h .1 .1 .1 .1 .1 .0);
+      counts = counts-of img (h .1 .1 .1 .1 .1 .1 .0);
+    }
+
+of-header : (img : List ℕ) → Header img → All Yes (headerQuestions img)
+unfolding headerQuestions markRight isZero
+of-header img h = (
+  le-leb 64 (length img) (h .long),
+  (
+    and-both (and-both (eq-eqb (getD img 0 0) 0x4C (h .mark₀)) (eq-eqb (getD img 1 0) 0x50 (h .mark₁))) (eq-eqb (getD img 2 0) 0x54 (h .mark₂)),
+    (
+      eq-eqb (numberAt img 3) 1 (h .version),
+      (
+        le-leb (keyCount img) 4096 (h .few),
+        (and-both (eq-eqb (getD img 5 0) 0 (h .five)) (zero-all (take 24 (drop 40 img)) (h .tail)), (eq-eqb (length img) _ (h .size), (of-counts img (h .counts), tt))),
+      ),
+    ),
+  ),
+)
+
+-- ---- 8 to 12
+
+abbrev pub HeadRight : List ℕ → ℕ → ℕ → Type 0
+HeadRight img b zero = (pageT img b 0 ≡ 0) × (pageB img b 0 ≡ 0)
+HeadRight img b (suc i) = pageB img b (suc i) ≡ pageB img b i + outLinkCount img b i
+
+abbrev pub PageNeeded : List ℕ → ℕ → ℕ → Type 0
+PageNeeded img b zero = Unit {0}
+PageNeeded img b (suc i) = 240 < nodeCount 1 (firstSubtries 1 (pageLevels img b (suc i))) + pageNodes img b i
+
+pub record PageOk (img : List ℕ) (b i : ℕ) : Type 0 where
+  pub counters : HeadRight img b i
+  pub some-roots : 1 ≤ pageRoots img b i
+  pub few-roots : pageRoots img b i ≤ 60
+  pub within : pageNodes img b i ≤ 240
+  pub positive : All (λ l. every isPositive l ≡ true) (pageLevels img b i)
+  pub zeros : every isZero (drop (pageNodes img b i) (pagePairs img b i)) ≡ true
+  pub full : PageNeeded img b i
+
+counters-of : (img : List ℕ) (b i : ℕ) → headRight img b i ≡ true → HeadRight img b i
+unfolding headRight isZero
+counters-of img b zero h =
+    (eqb-true (pageT img b 0) 0 (and-left (eqb (pageT img b 0) 0) (eqb (pageB img b 0) 0) h), eqb-true (pageB img b 0) 0 (and-right (eqb (pageT img b 0) 0) (eqb (pageB img b 0) 0) h))
+counters-of img b (suc i) h = eqb-true _ _ h
+
+of-counters : (img : List ℕ) (b i : ℕ) → HeadRight img b i → headRight img b i ≡ true
+unfolding headRight isZero
+of-counters img b zero h = and-both (eq-eqb (pageT img b 0) 0 (h .0)) (eq-eqb (pageB img b 0) 0 (h .1))
+of-counters img b (suc i) h = eq-eqb _ _ h
+
+full-of : (img : List ℕ) (b i : ℕ) → pageNeeded img b i ≡ true → PageNeeded img b i
+unfolding pageNeeded
+full-of img b zero h = tt
+full-of img b (suc i) h = ltb-true 240 _ h
+
+of-full : (img : List ℕ) (b i : ℕ) → PageNeeded img b i → pageNeeded img b i ≡ true
+unfolding pageNeeded
+of-full img b zero h = refl
+of-full img b (suc i) h = lt-ltb 240 _ h
+
+page-of : (img : List ℕ) (b i : ℕ) → All Yes (pageQuestions img b i) → PageOk img b i
+unfolding pageQuestions
+page-of img b i h =
+    record {
+      counters = counters-of img b i (h .0);
+      some-roots = leb-true 1 (pageRoots img b i) (and-left (leb 1 (pageRoots img b i)) (leb (pageRoots img b i) 60) (h .1 .0));
+      few-roots = leb-true (pageRoots img b i) 60 (and-right (leb 1 (pageRoots img b i)) (leb (pageRoots img b i) 60) (h .1 .0));
+      within = leb-true (pageNodes img b i) 240 (and-left (leb (pageNodes img b i) 240) (every (every isPositive) (pageLevels img b i)) (h .1 .1 .0));
+      positive = every-all (every isPositive) (pageLevels img b i) (and-right (leb (pageNodes img b i) 240) (every (every isPositive) (pageLevels img b i)) (h .1 .1 .0));
+      zeros = h .1 .1 .1 .0;
+      full = full-of img b i (h .1 .1 .1 .1 .0);
+    }
+
+of-page : (img : List ℕ) (b i : ℕ) → PageOk img b i → All Yes (pageQuestions img b i)
+unfolding pageQuestions
+of-page img b i h = (
+  of-counters img b i (h .counters),
+  (
+    and-both (le-leb 1 (pageRoots img b i) (h .some-roots)) (le-leb (pageRoots img b i) 60 (h .few-roots)),
+    (and-both (le-leb (pageNodes img b i) 240 (h .within)) (all-every (every isPositive) (pageLevels img b i) (h .positive)), (h .zeros, (of-full img b i (h .full), tt))),
+  ),
+)
+
+-- ---- 13, and all
+
+pub record Checked (img : List ℕ) : Type 0 where
+  pub header : Header img
+  pub page : (b i : ℕ) → 1 ≤ b → b ≤ 8 → i < pageCount img b → PageOk img b i
+  pub link : (b : ℕ) → 1 ≤ b → b ≤ 8 → total (map (outLinkCount img b) (upTo (pageCount img b))) ≡ outLinksDue img b
+
+pub checked : (img : List ℕ) → AllYes img → Checked img
+unfolding imageQuestions bandQuestions bands
+checked img a =
+    let all : All Yes (headerQuestions img ++ flatMap (bandQuestions img) (numbersFrom 1 8)) = yes-of-none (imageQuestions img) a in
+    let each : (b : ℕ) → 1 ≤ b → b ≤ 8 → All Yes (bandQuestions img b) =
+    λ b lo hi. numbers-all (λ b. All Yes (bandQuestions img b)) 1 8 (flatMap-all (bandQuestions img) Yes (numbersFrom 1 8) (all-right Yes (headerQuestions img) _ all)) b lo (omega arith) in
+    record {
+      header = header-of img (all-left Yes (headerQuestions img) _ all);
+      page = λ b i lo hi h. page-of img b i (upTo-all (λ i. All Yes (pageQuestions img b i)) (pageCount img b) (flatMap-all (pageQuestions img b) Yes (upTo (pageCount img b)) (all-left Yes (flatMap (pageQuestions img b) (upTo (pageCount img b))) _ (each b lo hi))) i h);
+      link = λ b lo hi. eqb-true _ _ (all-right Yes (flatMap (pageQuestions img b) (upTo (pageCount img b))) _ (each b lo hi) .0);
+    }
+
+pub accepted : (img : List ℕ) → Checked img → AllYes img
+unfolding imageQuestions bandQuestions bands
+accepted img c =
+    none-of-yes (imageQuestions img)
+    (all-append Yes (headerQuestions img) (flatMap (bandQuestions img) (numbersFrom 1 8)) (of-header img (c .header))
+    (all-flatMap (bandQuestions img) Yes (numbersFrom 1 8)
+    (all-numbers (λ b. All Yes (bandQuestions img b)) 1 8
+    (λ b lo hi. all-append Yes (flatMap (pageQuestions img b) (upTo (pageCount img b))) _
+    (all-flatMap (pageQuestions img b) Yes (upTo (pageCount img b)) (all-upTo (λ i. All Yes (pageQuestions img b i)) (pageCount img b) (λ i h. of-page img b i (c .page b i lo (omega arith) h))))
+    (eq-eqb _ _ (c .link b lo (omega arith)), tt)))))

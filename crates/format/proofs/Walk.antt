@@ -1,0 +1,446 @@
+-- Finding one's way in an accepted image: from a root down the levels of its page to an out-link, which is the number of a root of the next band, or a rank.
+-- Assumes nothing.
+use mathlib.Core.List.{List, [], _∷_, _++_, map, flatten, List·Memᴰ}
+use mathlib.Core.Path.{_≡_, refl, sym, ap, ap₂, _∙_, subst}
+use Prim.Native.Nat.{ℕ, zero, suc, _+_, _*_, _-_, _/_, _^_, _≤_, _<_}
+use native.Mathlib.Nat.{add-zero, zero-add}
+use native.Mathlib.Omega.{arith}
+use native.Mathlib.Decide.{decLe}
+use lib.Dec.{leb}
+use borrow.Author.Tests.{le-leb, lt-leb}
+use lib.ListN.{length, getD, take, drop, length-drop, take-append-drop}
+use lib.Seq.{take-suc, drop-cons, take-all}
+use Rattle.format.specs.Seq.{All, numbersFrom, rankIn, select, total, upTo}
+use Rattle.format.specs.Trie.{below, descend, onBits}
+use Rattle.format.specs.Page.{Byte}
+use Rattle.format.specs.Image.{bandLevel, bandLevels, bands, imageLevels, keyCount, keysOf, outLinkCount, pageB, pageCount, pageLevels, pageNodes, pageNumber, pagePairs, pageRoots, pageT, rootCount}
+use Rattle.format.specs.Answer.{pageOf, rootOf}
+use Rattle.format.proofs.Lists.{map-same, all-numbers}
+use Rattle.format.proofs.Trie.{Shape, Nodes, Asc, lastOn, shape-left, shape-right, descend-snoc, descend-keys}
+use Rattle.format.proofs.Bytes.{levels-join}
+use Rattle.format.proofs.Checked.{Checked, Counts, no-keys, some-keys}
+use Rattle.format.proofs.Read.{page-four, page-shape, page-roots, next-roots, next-more, next-last, band-four, band-roots}
+use Rattle.format.proofs.Back.{image-shape, image-32}
+use Rattle.format.proofs.Descent.{bit, childAt, node-at, child-place, length-below, child-prefix, rank-at, bit-of-mem, key-prefix}
+use Rattle.format.proofs.Places.{offset, place-node, place-child, offset-all, offset-within, offset-le, level-next, lengths, run-at, run-within, run-before, fours-at, last-below}
+
+descend-parts : (ps : List ℕ) (d : ℕ) (ls : List (List ℕ)) → descend (descend ps (take d ls)) (drop d ls) ≡ descend ps ls
+unfolding descend
+descend-parts ps zero ls = refl
+descend-parts ps (suc d) [] = refl
+descend-parts ps (suc d) (ns ∷ ls) = descend-parts (below ps ns) d ls
+
+-- the nodes of level d, from 0, and their prefixes; level 32's are the keys
+unfoldable pub levelAt : List ℕ → ℕ → List ℕ
+levelAt img d = getD (imageLevels img) d []
+
+unfoldable pub prefixesAt : List ℕ → ℕ → List ℕ
+prefixesAt img d = descend (0 ∷ []) (take d (imageLevels img))
+
+-- level l, from 0, of band b
+abbrev pub depth : ℕ → ℕ → ℕ
+depth b l = 4 * (b - 1) + l
+
+-- how many nodes of level l of band b stand before those of page i
+unfoldable pub before : List ℕ → ℕ → ℕ → ℕ → ℕ
+before img b l i = lengths (λ k. getD (pageLevels img b k) l []) 0 i
+
+-- the place of the child of bit c of the node at place p: the roots, and the on bits before that bit
+abbrev pub childPlace : List ℕ → ℕ → ℕ → ℕ → ℕ → ℕ
+childPlace img b i p c = pageRoots img b i + childAt (pagePairs img b i) p c
+
+module _ (img : List ℕ) (a : All Byte img) (c : Checked img) (some : 1 ≤ keyCount img) where
+  -- ---- the levels
+
+  pub one-root : rootCount img 1 ≡ 1
+  one-root = go (c .header .counts)
+    where
+      go : Counts img → rootCount img 1 ≡ 1
+      go (no-keys z f) = absurd (omega arith)
+      go (some-keys k p r f) = r
+
+  levels-one : Shape 1 (imageLevels img)
+  levels-one = rw one-root at (image-shape img a c)
+
+  pub prefixes-asc : (d : ℕ) → Asc (prefixesAt img d)
+  unfolding prefixesAt
+  prefixes-asc d =
+      descend-keys 0 (0 ∷ []) (take d (imageLevels img)) tt (omega arith, tt) (shape-left 1 (take d (imageLevels img)) (drop d (imageLevels img)) (rw (take-append-drop d (imageLevels img)) levels-one)) .asc
+
+  prefixes-length : (d : ℕ) → length (prefixesAt img d) ≡ lastOn 1 (take d (imageLevels img))
+  unfolding prefixesAt
+  prefixes-length d =
+      descend-keys 0 (0 ∷ []) (take d (imageLevels img)) tt (omega arith, tt) (shape-left 1 (take d (imageLevels img)) (drop d (imageLevels img)) (rw (take-append-drop d (imageLevels img)) levels-one)) .count-is
+
+  shape-below : (d : ℕ) → Shape (length (prefixesAt img d)) (drop d (imageLevels img))
+  shape-below d = rw (prefixes-length d) (shape-right 1 (take d (imageLevels img)) (drop d (imageLevels img)) (rw (take-append-drop d (imageLevels img)) levels-one))
+
+  shape-level : (d : ℕ) → d < 32 → Shape (length (prefixesAt img d)) (levelAt img d ∷ drop (suc d) (imageLevels img))
+  unfolding levelAt
+  shape-level d h = subst (Shape (length (prefixesAt img d))) (drop-cons (imageLevels img) d [] (omega (arith, image-32 img a c))) (shape-below d)
+
+  pub level-count : (d : ℕ) → d < 32 → length (levelAt img d) ≡ length (prefixesAt img d)
+  level-count d h = shape-level d h .0
+
+  pub level-valid : (d : ℕ) → d < 32 → Nodes (levelAt img d)
+  level-valid d h = shape-level d h .1
+
+  pub prefixes-next : (d : ℕ) → d < 32 → prefixesAt img (suc d) ≡ below (prefixesAt img d) (levelAt img d)
+  unfolding prefixesAt levelAt
+  prefixes-next d h =
+      ap (descend (0 ∷ [])) (take-suc (imageLevels img) d [] (omega (arith, image-32 img a c))) ∙ descend-snoc (0 ∷ []) (take d (imageLevels img)) (getD (imageLevels img) d [])
+
+  pub prefixes-keys : prefixesAt img 32 ≡ keysOf img
+  unfolding prefixesAt keysOf
+  prefixes-keys = ap (descend (0 ∷ [])) (take-all 32 (imageLevels img) (omega (arith, image-32 img a c)))
+
+  -- the bit of a node leads to the prefix with that bit
+  pub next-prefix : (d n t : ℕ) → d < 32 → n < length (prefixesAt img d) → t ≤ 1 → 1 ≤ bit t (getD (levelAt img d) n 0)
+      → getD (prefixesAt img (suc d)) (childAt (levelAt img d) n t) 0 ≡ 2 * getD (prefixesAt img d) n 0 + t
+  next-prefix d n t h k lt b =
+      ap (λ (l : List ℕ). getD l (childAt (levelAt img d) n t) 0) (prefixes-next d h) ∙ child-prefix (prefixesAt img d) (levelAt img d) n (level-count d h) (level-valid d h) k t lt b
+
+  pub next-within : (d n t : ℕ) → d < 32 → n < length (prefixesAt img d) → t ≤ 1 → 1 ≤ bit t (getD (levelAt img d) n 0) → childAt (levelAt img d) n t < length (prefixesAt img (suc d))
+  next-within d n t h k lt b =
+      omega (arith, child-place (levelAt img d) n t (omega (arith, level-count d h)) lt b, ap length (prefixes-next d h), length-below (prefixesAt img d) (levelAt img d) (level-count d h) (level-valid d h))
+
+  -- no key goes on with a bit that is off
+  pub no-prefix : (d n t : ℕ) → d < 32 → n < length (prefixesAt img d) → t ≤ 1 → bit t (getD (levelAt img d) n 0) ≡ 0 → List·Memᴰ (2 * getD (prefixesAt img d) n 0 + t) (prefixesAt img (suc d)) → ⊥
+  no-prefix d n t h k lt b m =
+      omega (arith, bit-of-mem (prefixesAt img d) (levelAt img d) n t (prefixes-asc d) (level-valid d h) k lt (subst (λ (l : List ℕ). List·Memᴰ (2 * getD (prefixesAt img d) n 0 + t) l) (prefixes-next d h) m))
+
+  -- ---- pages and levels
+
+  module _ (b : ℕ) (lo : 1 ≤ b) (hi : b ≤ 8) where
+    pub level-of-band : (l : ℕ) → l < 4 → levelAt img (depth b l) ≡ bandLevel img b l
+    unfolding levelAt imageLevels bands
+    level-of-band l h =
+        let e : 1 + (b - 1) ≡ b = omega arith in
+        fours-at (bandLevels img) 1 8 (b - 1) l (λ t lo hi. band-four img a c t lo (omega arith)) (omega arith) h ∙ ap (λ (t : ℕ). getD (bandLevels img t) l []) e ∙ at l h
+      where
+        at : (l : ℕ) → l < 4 → getD (bandLevels img b) l [] ≡ bandLevel img b l
+        at zero h = unfold bandLevels upTo numbersFrom in refl
+        at (suc zero) h = unfold bandLevels upTo numbersFrom in refl
+        at (suc (suc zero)) h = unfold bandLevels upTo numbersFrom in refl
+        at (suc (suc (suc zero))) h = unfold bandLevels upTo numbersFrom in refl
+        at (suc (suc (suc (suc l)))) h = absurd (omega arith)
+
+    -- T counts the roots before a page
+    T-from : (s i : ℕ) → s + i < pageCount img b → pageT img b s + lengths (λ k. getD (pageLevels img b k) 0 []) s i ≡ pageT img b (s + i)
+    unfolding numbersFrom total
+    T-from s zero h = omega (arith, ap (pageT img b) (add-zero s))
+    T-from s (suc i) h =
+        let e : s + suc i ≡ suc s + i = omega arith in
+        omega (arith, ap (pageT img b) e, T-from (suc s) i (omega arith), next-roots img a c b lo hi s (omega arith), next-more img a c b lo hi s (omega arith), root-level s (omega arith))
+      where
+        root-level : (s : ℕ) → s < pageCount img b → length (getD (pageLevels img b s) 0 []) ≡ pageRoots img b s
+        root-level s h = unfold Rattle.format.specs.Writer.rootsIn in page-roots img a c b lo hi s h
+
+    pub before-roots : (i : ℕ) → i < pageCount img b → before img b 0 i ≡ pageT img b i
+    unfolding before
+    before-roots i h = omega (arith, T-from 0 i (omega arith), ap (pageT img b) (zero-add i), c .page b 0 lo hi (omega arith) .counters .0)
+
+    -- B the on bits of the fourth levels
+    B-from : (s i : ℕ) → s + i < pageCount img b → pageB img b s + total (map (λ k. onBits (getD (pageLevels img b k) 3 [])) (numbersFrom s i)) ≡ pageB img b (s + i)
+    unfolding numbersFrom total outLinkCount
+    B-from s zero h = omega (arith, ap (pageB img b) (add-zero s))
+    B-from s (suc i) h =
+        let e : s + suc i ≡ suc s + i = omega arith in
+        omega (arith, ap (pageB img b) e, B-from (suc s) i (omega arith), c .page b (suc s) lo hi (omega arith) .counters)
+
+    before-links : (i : ℕ) → i < pageCount img b → total (map (λ k. onBits (getD (pageLevels img b k) 3 [])) (numbersFrom 0 i)) ≡ pageB img b i
+    before-links i h = omega (arith, B-from 0 i (omega arith), ap (pageB img b) (zero-add i), c .page b 0 lo hi (omega arith) .counters .1)
+
+    -- and the nodes of a later level are the on bits of the level above
+    before-next : (l i : ℕ) → l < 3 → i < pageCount img b → total (map (λ k. onBits (getD (pageLevels img b k) l [])) (numbersFrom 0 i)) ≡ before img b (suc l) i
+    unfolding before
+    before-next l i h k =
+        ap total (map-same (λ k. onBits (getD (pageLevels img b k) l [])) (λ k. length (getD (pageLevels img b k) (suc l) [])) (numbersFrom 0 i)
+        (all-numbers (λ k. onBits (getD (pageLevels img b k) l []) ≡ length (getD (pageLevels img b k) (suc l) [])) 0 i
+        (λ j p q. sym (level-next (pageRoots img b j) l (pageLevels img b j) (page-shape img a c b lo hi j (omega arith)) (omega (arith, page-four img a c b lo hi j))))))
+
+    module _ (i : ℕ) (in-band : i < pageCount img b) where
+      shaped : Shape (pageRoots img b i) (pageLevels img b i)
+      shaped = page-shape img a c b lo hi i in-band
+
+      four : length (pageLevels img b i) ≡ 4
+      four = page-four img a c b lo hi i
+
+      pub nodes-are : offset 4 (pageLevels img b i) ≡ pageNodes img b i
+      unfolding pageNodes
+      nodes-are = ap (λ (n : ℕ). offset n (pageLevels img b i)) (sym four) ∙ offset-all (pageRoots img b i) (pageLevels img b i) shaped
+
+      pairs-split : pagePairs img b i ≡ flatten (pageLevels img b i) ++ drop (pageNodes img b i) (pagePairs img b i)
+      unfolding pageLevels pageNodes
+      pairs-split = levels-join 4 (pageRoots img b i) (pagePairs img b i)
+
+      -- node j of level l of the page: its place and its index in the band
+      module _ (l j : ℕ) (lv : l < 4) (inner : j < length (getD (pageLevels img b i) l [])) where
+        pub node-is : getD (pagePairs img b i) (offset l (pageLevels img b i) + j) 0 ≡ getD (getD (pageLevels img b i) l []) j 0
+        node-is =
+            ap (λ (ps : List ℕ). getD ps (offset l (pageLevels img b i) + j) 0) pairs-split
+            ∙ place-node l (pageLevels img b i) (drop (pageNodes img b i) (pagePairs img b i)) j (omega (arith, four)) inner
+
+        pub node-index : getD (levelAt img (depth b l)) (before img b l i + j) 0 ≡ getD (getD (pageLevels img b i) l []) j 0
+        unfolding before bandLevel upTo
+        node-index =
+            ap (λ (ns : List ℕ). getD ns (before img b l i + j) 0) (level-of-band l lv)
+            ∙ run-at (λ k. getD (pageLevels img b k) l []) 0 (pageCount img b) i j in-band (rw (zero-add i) inner)
+            ∙ ap (λ (k : ℕ). getD (getD (pageLevels img b k) l []) j 0) (zero-add i)
+
+        pub node-within : before img b l i + j < length (prefixesAt img (depth b l))
+        unfolding before bandLevel upTo
+        node-within =
+            omega (
+              arith,
+              run-within (λ k. getD (pageLevels img b k) l []) 0 (pageCount img b) i j in-band (rw (zero-add i) inner),
+              ap length (level-of-band l lv),
+              level-count (depth b l) (omega arith),
+            )
+
+        pub place-within : offset l (pageLevels img b i) + j < pageNodes img b i
+        place-within = omega (arith, nodes-are, offset-within l (pageLevels img b i) (omega (arith, four)), offset-le (suc l) (pageLevels img b i), ap (λ (n : ℕ). offset n (pageLevels img b i)) four)
+
+        first-place : pageRoots img b i + onBits (take (offset l (pageLevels img b i) + j) (pagePairs img b i)) ≡ offset (suc l) (pageLevels img b i) + onBits (take j (getD (pageLevels img b i) l []))
+        first-place =
+            ap (λ (ps : List ℕ). pageRoots img b i + onBits (take (offset l (pageLevels img b i) + j) ps)) pairs-split
+            ∙ place-child (pageRoots img b i) l (pageLevels img b i) (drop (pageNodes img b i) (pagePairs img b i)) j shaped (omega (arith, four)) (omega arith)
+
+        -- the child's place in the page
+        pub child-at-place : (t : ℕ) → childPlace img b i (offset l (pageLevels img b i) + j) t ≡ offset (suc l) (pageLevels img b i) + childAt (getD (pageLevels img b i) l []) j t
+        child-at-place zero = first-place
+        child-at-place (suc t) = omega (arith, first-place, node-is)
+
+        first-index : onBits (take (before img b l i + j) (levelAt img (depth b l))) ≡ total (map (λ k. onBits (getD (pageLevels img b k) l [])) (numbersFrom 0 i)) + onBits (take j (getD (pageLevels img b i) l []))
+        unfolding before bandLevel upTo
+        first-index =
+            ap (λ (ns : List ℕ). onBits (take (before img b l i + j) ns)) (level-of-band l lv)
+            ∙ run-before (λ k. getD (pageLevels img b k) l []) 0 (pageCount img b) i j in-band (let m : j < length (getD (pageLevels img b (0 + i)) l []) = rw (zero-add i) inner in omega arith)
+            ∙ ap (λ (k : ℕ). total (map (λ k. onBits (getD (pageLevels img b k) l [])) (numbersFrom 0 i)) + onBits (take j (getD (pageLevels img b k) l []))) (zero-add i)
+
+        -- and its index in the next level
+        pub child-at-index : (t : ℕ) → childAt (levelAt img (depth b l)) (before img b l i + j) t ≡ total (map (λ k. onBits (getD (pageLevels img b k) l [])) (numbersFrom 0 i)) + childAt (getD (pageLevels img b i) l []) j t
+        child-at-index zero = first-index
+        child-at-index (suc t) = omega (arith, first-index, node-index)
+
+-- ---- the way down
+
+-- Place p of page i of band b is node n of the band's level l, and its prefix is x.
+pub record Reached (img : List ℕ) (b i l p n x : ℕ) : Type 0 where
+  pub j : ℕ
+  pub in-band : i < pageCount img b
+  pub in-page : l < 4
+  pub inner : j < length (getD (pageLevels img b i) l [])
+  pub place : p ≡ offset l (pageLevels img b i) + j
+  pub index : n ≡ before img b l i + j
+  pub prefix : getD (prefixesAt img (depth b l)) n 0 ≡ x
+
+-- the out-link of a place past the page's nodes
+abbrev pub outLink : List ℕ → ℕ → ℕ → ℕ → ℕ
+outLink img b i q = pageB img b i + (q - pageNodes img b i)
+
+-- Place q is past the nodes of page i of band b, and its out-link is the number of prefix x, among the roots of the band below, or the keys.
+pub record Out (img : List ℕ) (b i q x : ℕ) : Type 0 where
+  pub past : pageNodes img b i ≤ q
+  pub within : outLink img b i q < length (prefixesAt img (4 * b))
+  pub prefix : getD (prefixesAt img (4 * b)) (outLink img b i q) 0 ≡ x
+
+module _ (img : List ℕ) (a : All Byte img) (c : Checked img) (some : 1 ≤ keyCount img) (b : ℕ) (lo : 1 ≤ b) (hi : b ≤ 8) where
+  -- a root
+  pub reached-root : (i n : ℕ) → i < pageCount img b → pageT img b i ≤ n → n < pageT img b i + pageRoots img b i → Reached img b i 0 (n - pageT img b i) n (getD (prefixesAt img (depth b 0)) n 0)
+  reached-root i n h k m =
+      record {
+        j = n - pageT img b i;
+        in-band = h;
+        in-page = omega arith;
+        inner = let e : length (getD (pageLevels img b i) 0 []) ≡ pageRoots img b i = unfold Rattle.format.specs.Writer.rootsIn in page-roots img a c b lo hi i h in omega arith;
+        place = omega arith;
+        index = omega (arith, before-roots img a c some b lo hi i h);
+        prefix = refl;
+      }
+
+  module _ (i l p n x : ℕ) (r : Reached img b i l p n x) where
+    -- the node at the place is the node of the level
+    pub reached-node : getD (pagePairs img b i) p 0 ≡ getD (levelAt img (depth b l)) n 0
+    reached-node =
+        ap (λ (q : ℕ). getD (pagePairs img b i) q 0) (r .place)
+        ∙ node-is img a c some b lo hi i (r .in-band) l (r .j) (r .in-page) (r .inner)
+        ∙ sym (ap (λ (m : ℕ). getD (levelAt img (depth b l)) m 0) (r .index) ∙ node-index img a c some b lo hi i (r .in-band) l (r .j) (r .in-page) (r .inner))
+
+    pub reached-place : p < pageNodes img b i
+    reached-place = rw (r .place) (place-within img a c some b lo hi i (r .in-band) l (r .j) (r .in-page) (r .inner))
+
+    pub reached-index : n < length (prefixesAt img (depth b l))
+    reached-index = rw (r .index) (node-within img a c some b lo hi i (r .in-band) l (r .j) (r .in-page) (r .inner))
+
+    pub reached-valid : (1 ≤ getD (pagePairs img b i) p 0) × (getD (pagePairs img b i) p 0 ≤ 3)
+    reached-valid =
+        let d : depth b l < 32 = omega (arith, r .in-page) in
+        rw reached-node (node-at (levelAt img (depth b l)) n (level-valid img a c some (depth b l) d) (omega (arith, level-count img a c some (depth b l) d, reached-index)))
+
+    -- no key goes on with a bit that is off
+    pub reached-off : (t : ℕ) → t ≤ 1 → bit t (getD (pagePairs img b i) p 0) ≡ 0 → List·Memᴰ (2 * x + t) (prefixesAt img (suc (depth b l))) → ⊥
+    reached-off t lt off m =
+        let d : depth b l < 32 = omega (arith, r .in-page) in
+        no-prefix img a c some (depth b l) n t d reached-index lt (rw (← reached-node) off)
+        (subst (λ (y : ℕ). List·Memᴰ (2 * y + t) (prefixesAt img (suc (depth b l)))) (sym (r .prefix)) m)
+
+    module _ (t : ℕ) (lt : t ≤ 1) (on : 1 ≤ bit t (getD (pagePairs img b i) p 0)) where
+      on-level : 1 ≤ bit t (getD (levelAt img (depth b l)) n 0)
+      on-level = rw (← reached-node) on
+
+      on-page : 1 ≤ bit t (getD (getD (pageLevels img b i) l []) (r .j) 0)
+      on-page = subst (λ (m : ℕ). 1 ≤ bit t m) (ap (λ (q : ℕ). getD (pagePairs img b i) q 0) (r .place) ∙ node-is img a c some b lo hi i (r .in-band) l (r .j) (r .in-page) (r .inner)) on
+
+      next-place : childPlace img b i p t ≡ offset (suc l) (pageLevels img b i) + childAt (getD (pageLevels img b i) l []) (r .j) t
+      next-place = ap (λ (q : ℕ). childPlace img b i q t) (r .place) ∙ child-at-place img a c some b lo hi i (r .in-band) l (r .j) (r .in-page) (r .inner) t
+
+      next-index : childAt (levelAt img (depth b l)) n t ≡ total (map (λ k. onBits (getD (pageLevels img b k) l [])) (numbersFrom 0 i)) + childAt (getD (pageLevels img b i) l []) (r .j) t
+      next-index = ap (λ (m : ℕ). childAt (levelAt img (depth b l)) m t) (r .index) ∙ child-at-index img a c some b lo hi i (r .in-band) l (r .j) (r .in-page) (r .inner) t
+
+      child-x : getD (prefixesAt img (suc (depth b l))) (childAt (levelAt img (depth b l)) n t) 0 ≡ 2 * x + t
+      child-x =
+          next-prefix img a c some (depth b l) n t (omega (arith, r .in-page)) reached-index lt on-level ∙ ap (λ (y : ℕ). 2 * y + t) (r .prefix)
+
+      child-inner : childAt (getD (pageLevels img b i) l []) (r .j) t < onBits (getD (pageLevels img b i) l [])
+      child-inner = child-place (getD (pageLevels img b i) l []) (r .j) t (r .inner) lt on-page
+
+      -- an on bit of the first three levels: the child is in the same page, at the roots and the on bits before that bit
+      pub reached-child : l < 3 → Reached img b i (suc l) (childPlace img b i p t) (childAt (levelAt img (depth b l)) n t) (2 * x + t)
+      reached-child h =
+          let d : suc (depth b l) ≡ depth b (suc l) = omega arith in
+          record {
+            j = childAt (getD (pageLevels img b i) l []) (r .j) t;
+            in-band = r .in-band;
+            in-page = omega arith;
+            inner = omega (arith, child-inner, level-next (pageRoots img b i) l (pageLevels img b i) (page-shape img a c b lo hi i (r .in-band)) (omega (arith, page-four img a c b lo hi i)));
+            place = next-place;
+            index = next-index ∙ ap (_+ childAt (getD (pageLevels img b i) l []) (r .j) t) (before-next img a c some b lo hi l i h (r .in-band));
+            prefix = ap (λ (m : ℕ). getD (prefixesAt img m) (childAt (levelAt img (depth b l)) n t) 0) (sym d) ∙ child-x;
+          }
+
+      -- an on bit of the fourth: B and what the child's place is past the page's nodes make the number of the prefix in the next level
+      pub reached-out : l ≡ 3 → Out img b i (childPlace img b i p t) (2 * x + t)
+      reached-out h =
+          let d : suc (depth b l) ≡ 4 * b = omega arith in
+          let end : offset (suc l) (pageLevels img b i) ≡ pageNodes img b i = ap (λ (m : ℕ). offset (suc m) (pageLevels img b i)) h ∙ nodes-are img a c some b lo hi i (r .in-band) in
+          let links : total (map (λ k. onBits (getD (pageLevels img b k) l [])) (numbersFrom 0 i)) ≡ pageB img b i =
+          ap (λ (m : ℕ). total (map (λ k. onBits (getD (pageLevels img b k) m [])) (numbersFrom 0 i))) h ∙ before-links img a c some b lo hi i (r .in-band) in
+          let place = next-place in
+          let index = next-index in
+          let number : childAt (levelAt img (depth b l)) n t ≡ outLink img b i (childPlace img b i p t) = omega arith in
+          record {
+            past = omega arith;
+            within = rw (← number, ← d) (next-within img a c some (depth b l) n t (omega (arith, r .in-page)) reached-index lt on-level);
+            prefix = ap₂ (λ (m k : ℕ). getD (prefixesAt img m) k 0) (sym d) (sym number) ∙ child-x;
+          }
+
+-- ---- ranks, roots and pages
+
+module _ (img : List ℕ) (a : All Byte img) (c : Checked img) (some : 1 ≤ keyCount img) where
+  -- the prefixes at a band's first level are as many as its roots
+  pub roots-count : (b : ℕ) → 1 ≤ b → b ≤ 8 → length (prefixesAt img (depth b 0)) ≡ rootCount img b
+  unfolding bandLevels upTo numbersFrom
+  roots-count b lo hi =
+      sym (level-count img a c some (depth b 0) (omega arith))
+      ∙ ap length (level-of-band img a c some b lo hi 0 (omega arith))
+      ∙ (unfold Rattle.format.specs.Writer.rootsIn in band-roots img a c b lo hi)
+
+  -- the number of a prefix is its rank
+  pub prefix-rank : (d n : ℕ) → n < length (prefixesAt img d) → rankIn (prefixesAt img d) (getD (prefixesAt img d) n 0) ≡ n
+  prefix-rank d n h = rank-at (prefixesAt img d) n (prefixes-asc img a c some d) h
+
+  -- the root of a key in band b
+  pub root-is : (key b n : ℕ) → n < length (prefixesAt img (4 * (b - 1))) → getD (prefixesAt img (4 * (b - 1))) n 0 ≡ key / 2 ^ (36 - 4 * b) → rootOf img key b ≡ n
+  unfolding rootOf prefixesAt
+  root-is key b n h e = ap (rankIn (prefixesAt img (4 * (b - 1)))) (sym e) ∙ prefix-rank (4 * (b - 1)) n h
+
+  -- T rises from page to page
+  pub T-rises : (b : ℕ) → 1 ≤ b → b ≤ 8 → (i m : ℕ) → i + m < pageCount img b → pageT img b i + m ≤ pageT img b (i + m)
+  T-rises b lo hi i zero h = omega (arith, ap (pageT img b) (add-zero i))
+  T-rises b lo hi i (suc m) h =
+      let e : i + suc m ≡ suc i + m = omega arith in
+      omega (arith, ap (pageT img b) e, T-rises b lo hi (suc i) m (omega arith), next-roots img a c b lo hi i (omega arith), next-more img a c b lo hi i (omega arith), c .page b i lo hi (omega arith) .some-roots)
+
+  -- the page of a root, by its number in the image
+  pub page-is : (key b i : ℕ) → 1 ≤ b → b ≤ 8 → i < pageCount img b → pageT img b i ≤ rootOf img key b → rootOf img key b < pageT img b i + pageRoots img b i → pageOf img key b ≡ pageNumber img b i
+  unfolding pageOf
+  page-is key b i lo hi h k m =
+      ap (pageNumber img b)
+      (last-below (pageCount img b) (λ j. leb (pageT img b j) (rootOf img key b)) i h (le-leb (pageT img b i) (rootOf img key b) k)
+      (λ j p q. let e : suc i + (j - suc i) ≡ j = omega arith in
+      lt-leb (pageT img b j) (rootOf img key b) (omega (arith, ap (pageT img b) e, T-rises b lo hi (suc i) (j - suc i) (omega arith), next-roots img a c b lo hi i h, next-more img a c b lo hi i (omega arith)))))
+
+  -- a key that is listed has its prefix at each level
+  pub listed-prefix : (key d : ℕ) → d ≤ 32 → List·Memᴰ key (keysOf img) → List·Memᴰ (key / 2 ^ (32 - d)) (prefixesAt img d)
+  unfolding keysOf prefixesAt
+  listed-prefix key d h m =
+      let n : length (drop d (imageLevels img)) ≡ 32 - d = length-drop d (imageLevels img) ∙ ap (_- d) (image-32 img a c) in
+      subst (λ (w : ℕ). List·Memᴰ (key / 2 ^ w) (prefixesAt img d)) n
+      (key-prefix key (length (prefixesAt img d)) (prefixesAt img d) (drop d (imageLevels img)) (shape-below img a c some d)
+      (subst (λ (l : List ℕ). List·Memᴰ key l) (sym (descend-parts (0 ∷ []) d (imageLevels img))) m))
+
+-- ---- every place of a page is a node's
+
+pub record ReachedAt (img : List ℕ) (b i p : ℕ) : Type 0 where
+  pub l : ℕ
+  pub n : ℕ
+  pub x : ℕ
+  pub way : Reached img b i l p n x
+
+-- a place is in one of the levels
+record InLevel (p : ℕ) (page : List (List ℕ)) : Type 0 where
+  l : ℕ
+  j : ℕ
+  in-page : l < length page
+  inner : j < length (getD page l [])
+  place : p ≡ offset l page + j
+
+in-level : (p : ℕ) (page : List (List ℕ)) → p < offset (length page) page → InLevel p page
+in-level p [] h = absurd (omega arith)
+in-level p (ns ∷ page) h =
+    elim (decLe (length ns) p) [
+      | yes k ↦ let r = in-level (p - length ns) page (omega arith) in
+          record { l = suc (r .l); j = r .j; in-page = omega (arith, r .in-page); inner = r .inner; place = omega (arith, r .place) }
+      | no k ↦ record { l = 0; j = p; in-page = omega arith; inner = omega arith; place = omega arith }
+    ]
+
+module _ (img : List ℕ) (a : All Byte img) (c : Checked img) (some : 1 ≤ keyCount img) (b : ℕ) (lo : 1 ≤ b) (hi : b ≤ 8) (i : ℕ) (h : i < pageCount img b) where
+  pub reached-any : (p : ℕ) → p < pageNodes img b i → ReachedAt img b i p
+  reached-any p k =
+      let four = page-four img a c b lo hi i in
+      let r = in-level p (pageLevels img b i) (omega (arith, nodes-are img a c some b lo hi i h, ap (λ (n : ℕ). offset n (pageLevels img b i)) four)) in
+      record {
+        l = r .l;
+        n = before img b (r .l) i + r .j;
+        x = getD (prefixesAt img (depth b (r .l))) (before img b (r .l) i + r .j) 0;
+        way = record { j = r .j; in-band = h; in-page = omega (arith, r .in-page, four); inner = r .inner; place = r .place; index = refl; prefix = refl };
+      }
+
+  -- the on bits of a page lead to its nodes but the roots, and to its out-links
+  pub links-total : pageRoots img b i + onBits (take (pageNodes img b i) (pagePairs img b i)) ≡ pageNodes img b i + outLinkCount img b i
+  unfolding outLinkCount
+  links-total =
+      let four = page-four img a c b lo hi i in
+      let nodes = nodes-are img a c some b lo hi i h in
+      let last : offset 3 (pageLevels img b i) + length (getD (pageLevels img b i) 3 []) ≡ pageNodes img b i = offset-within 3 (pageLevels img b i) (omega (arith, four)) ∙ nodes in
+      let split = pairs-split img a c some b lo hi i h in
+      let at = place-child (pageRoots img b i) 3 (pageLevels img b i) (drop (pageNodes img b i) (pagePairs img b i)) (length (getD (pageLevels img b i) 3 [])) (page-shape img a c b lo hi i h) (omega (arith, four)) (omega arith) in
+      ap₂ (λ (n : ℕ) (ps : List ℕ). pageRoots img b i + onBits (take n ps)) (sym last) split
+      ∙ at
+      ∙ ap₂ (λ (n : ℕ) (l : List ℕ). n + onBits l) nodes (take-all (length (getD (pageLevels img b i) 3 [])) (getD (pageLevels img b i) 3 []) (omega arith))
+
+-- ---- the start, and the page of a root
+
+module _ (img : List ℕ) (a : All Byte img) (c : Checked img) where
+  pub start : prefixesAt img (depth 1 0) ≡ 0 ∷ []
+  unfolding prefixesAt descend
+  start = refl
+
+  -- the last page whose T is at or below a root's number has that root
+  pub page-holds : (b i n : ℕ) → 1 ≤ b → b ≤ 8 → i < pageCount img b → (suc i < pageCount img b → n < pageT img b (suc i)) → n < rootCount img b → n < pageT img b i + pageRoots img b i
+  page-holds b i n lo hi h f k =
+      elim (decLe (suc (suc i)) (pageCount img b)) [
+        | yes m ↦ omega (arith, f m, next-roots img a c b lo hi i h, next-more img a c b lo hi i m)
+        | no m ↦ omega (arith, next-roots img a c b lo hi i h, next-last img a c b lo hi i (omega arith))
+      ]

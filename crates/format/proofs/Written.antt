@@ -1,0 +1,453 @@
+-- Bytes that the writer gives for well-formed bands, read again: the checker accepts them, and the bands are found there.
+-- Assumes nothing.
+use mathlib.Core.Path.{_≡_, refl, sym, ap, ap₂, _∙_, subst}
+use mathlib.Core.Bool.{true}
+use mathlib.Core.List.{List, [], _∷_, _++_, map, flatMap, flatten, append-assoc, map-map}
+use Prim.Native.Nat.{ℕ, zero, suc, _+_, _-_, _*_, _≤_, _<_}
+use native.Mathlib.Numerals.{add-one}
+use native.Mathlib.Omega.{arith}
+use native.Mathlib.Decide.{ℕ-discrete}
+use lib.Dec.{ltb}
+use borrow.Author.Tests.{lt-ltb, le-ltb}
+use lib.ListN.{length, getD, take, drop, replicate, length-append}
+use lib.Seq.{drop-drop, take-at, drop-at, getD-take}
+use Rattle.format.specs.Seq.{All, every, numbersFrom, total, upTo}
+use Rattle.format.specs.Trie.{onBits}
+use Rattle.format.specs.Page.{Byte, levelsIn, nodeBytes, nodeCount, numberAt, pairsOf, twoBytes}
+use Rattle.format.specs.Image.{bandLevels, bands, keyCount, nextT, outLinkCount, pageB, pageCount, pageLevels, pageNodes, pageNumber, pagePairs, pageRoots, pageT, pagesBefore, rootCount}
+use Rattle.format.specs.Question.{isPositive, isZero, outLinksDue}
+use Rattle.format.specs.Writer.{bandBytes, bandCounts, header, pageBytes, pagesOf, rootsIn}
+use Rattle.format.proofs.Lists.{all-append, all-numbers, all-flatMap, all-map, all-to, every-all, length-flatMap, map-same}
+use Rattle.format.proofs.Trie.{Shape, lastOn-grows}
+use Rattle.format.proofs.Subtries.{page-roots}
+use Rattle.format.proofs.Packing.{Page, Paged, Follows, glue, glue-roots, glue-links, lastOn-four, Pages, pages-of}
+use Rattle.format.proofs.Bytes.{number-of, twoBytes-small, length-nodeBytes, pairs-back, levels-found, length-flatten, nodes-flatten, shape-positive, zero-all, zeros-all, length-pageBytes, pageBytes-small}
+use Rattle.format.proofs.Checked.{Counts, no-keys, some-keys, Header, HeadRight, PageNeeded, PageOk, Checked, cond-yes, cond-no}
+use Rattle.format.proofs.Read.{band-glued}
+use Rattle.format.proofs.Back.{pagesBefore-suc}
+
+-- ---- one page
+
+pub record PageIs (img : List ℕ) (b i t o : ℕ) (p : List (List ℕ)) : Type 0 where
+  pub T-is : pageT img b i ≡ t
+  pub B-is : pageB img b i ≡ o
+  pub roots-is : pageRoots img b i ≡ rootsIn p
+  pub levels-are : pageLevels img b i ≡ p
+  pub nodes-are : pageNodes img b i ≡ nodeCount (rootsIn p) p
+  pub rest : every isZero (drop (pageNodes img b i) (pagePairs img b i)) ≡ true
+
+-- what stands at a place
+at-page : (img : List ℕ) (at t o : ℕ) (p : List (List ℕ)) (rest : List ℕ) → drop at img ≡ pageBytes t o p ++ rest → (numberAt img at ≡ t) × (numberAt img (at + 2) ≡ o) × (drop (at + 4) img ≡ nodeBytes 60 (flatten p) ++ rest)
+unfolding pageBytes
+at-page img at t o p rest e =
+    let e₀ : drop at img ≡ twoBytes t ++ (twoBytes o ++ (nodeBytes 60 (flatten p) ++ rest)) = e ∙ simp append-assoc in
+    let e₂ : drop (at + 2) img ≡ twoBytes o ++ (nodeBytes 60 (flatten p) ++ rest) = sym (drop-drop 2 at img) ∙ ap (drop 2) e₀ ∙ (unfold twoBytes in refl) in
+    let n : at + 2 + 2 ≡ at + 4 = omega arith in
+    let e₄ : drop (at + 4) img ≡ nodeBytes 60 (flatten p) ++ rest = ap (λ (k : ℕ). drop k img) (sym n) ∙ sym (drop-drop 2 (at + 2) img) ∙ ap (drop 2) e₂ ∙ (unfold twoBytes in refl) in
+    (number-of img at t _ e₀, number-of img (at + 2) o _ e₂, e₄)
+
+pairs-are : (img : List ℕ) (b i : ℕ) (p : List (List ℕ)) (rest : List ℕ) → Page p → drop (64 * pageNumber img b i + 4) img ≡ nodeBytes 60 (flatten p) ++ rest
+    → pagePairs img b i ≡ flatten p ++ replicate (240 - length (flatten p)) 0
+unfolding pagePairs
+pairs-are img b i p rest h e =
+    ap (λ (l : List ℕ). flatMap pairsOf (take 60 l)) e
+    ∙ ap (flatMap pairsOf) (take-at (nodeBytes 60 (flatten p)) rest 60 (length-nodeBytes 60 (flatten p)))
+    ∙ pairs-back 60 (flatten p) (nodes-flatten (rootsIn p) p (h .shape)) (omega (arith, length-flatten (rootsIn p) p (h .shape), h .fits))
+
+levels-of : (img : List ℕ) (b i : ℕ) (p : List (List ℕ)) → Page p → pageRoots img b i ≡ rootsIn p → pagePairs img b i ≡ flatten p ++ replicate (240 - length (flatten p)) 0 → pageLevels img b i ≡ p
+unfolding pageLevels
+levels-of img b i p h r e =
+    ap₂ (levelsIn 4) r e
+    ∙ ap (λ (n : ℕ). levelsIn n (rootsIn p) (flatten p ++ replicate (240 - length (flatten p)) 0)) (sym (h .four))
+    ∙ levels-found (rootsIn p) p (replicate (240 - length (flatten p)) 0) (h .shape)
+
+page-is : (img : List ℕ) (b i t o : ℕ) (p : List (List ℕ)) (rest : List ℕ) → Page p → drop (64 * pageNumber img b i) img ≡ pageBytes t o p ++ rest → nextT img b i ≡ t + rootsIn p → PageIs img b i t o p
+unfolding pageT pageB pageNodes pageRoots
+page-is img b i t o p rest h e next =
+    let q = at-page img (64 * pageNumber img b i) t o p rest e in
+    let r : pageRoots img b i ≡ rootsIn p = omega (arith, q .0) in
+    let ps = pairs-are img b i p rest h (q .2) in
+    let l = levels-of img b i p h r ps in
+    let n : pageNodes img b i ≡ nodeCount (rootsIn p) p = ap₂ nodeCount r l in
+    let m : length (flatten p) ≡ pageNodes img b i = length-flatten (rootsIn p) p (h .shape) ∙ sym n in
+    let z : drop (pageNodes img b i) (pagePairs img b i) ≡ replicate (240 - length (flatten p)) 0 = ap (drop (pageNodes img b i)) ps ∙ drop-at (flatten p) (replicate (240 - length (flatten p)) 0) (pageNodes img b i) m in
+    record {
+      T-is = q .0;
+      B-is = q .1;
+      roots-is = r;
+      levels-are = l;
+      nodes-are = n;
+      rest = ap (every isZero) z ∙ zero-all (replicate (240 - length (flatten p)) 0) (zeros-all (240 - length (flatten p)));
+    }
+
+-- ---- a band's pages
+
+abbrev pub AllRead : List ℕ → ℕ → ℕ → ℕ → ℕ → List (List (List ℕ)) → Type 0
+AllRead img b i t o [] = Unit {0}
+AllRead img b i t o (p ∷ ps) = PageIs img b i t o p × AllRead img b (suc i) (t + rootsIn p) (o + onBits (getD p 3 [])) ps
+
+pub length-bandBytes : (t o : ℕ) (ps : List (List (List ℕ))) → length (bandBytes t o ps) ≡ 64 * length ps
+unfolding bandBytes
+length-bandBytes t o [] = refl
+length-bandBytes t o (p ∷ ps) =
+    length-append (pageBytes t o p) (bandBytes (t + rootsIn p) (o + onBits (getD p 3 [])) ps)
+    ∙ omega (arith, length-pageBytes t o p, length-bandBytes (t + rootsIn p) (o + onBits (getD p 3 [])) ps)
+
+roots-none : rootsIn (glue []) ≡ 0
+unfolding rootsIn
+roots-none = refl
+
+next-of : (img : List ℕ) (b i t o : ℕ) (ps : List (List (List ℕ))) (rest : List ℕ) → Paged ps → suc i + length ps ≡ pageCount img b → drop (64 * pageNumber img b (suc i)) img ≡ bandBytes t o ps ++ rest
+    → t + rootsIn (glue ps) ≡ rootCount img b → nextT img b i ≡ t
+unfolding nextT bandBytes pageT
+next-of img b i t o [] rest h n e r =
+    cond-no (ltb (i + 1) (pageCount img b)) _ _ (le-ltb (i + 1) (pageCount img b) (omega arith)) ∙ omega (arith, roots-none)
+next-of img b i t o (p ∷ ps) rest h n e r =
+    cond-yes (ltb (i + 1) (pageCount img b)) _ _ (lt-ltb (i + 1) (pageCount img b) (omega arith))
+    ∙ ap (pageT img b) (add-one i)
+    ∙ at-page img (64 * pageNumber img b (suc i)) t o p (bandBytes (t + rootsIn p) (o + onBits (getD p 3 [])) ps ++ rest) (e ∙ simp append-assoc) .0
+
+pub read-pages : (img : List ℕ) (b i t o : ℕ) (ps : List (List (List ℕ))) (rest : List ℕ) → Paged ps → i + length ps ≡ pageCount img b → drop (64 * pageNumber img b i) img ≡ bandBytes t o ps ++ rest
+    → t + rootsIn (glue ps) ≡ rootCount img b → AllRead img b i t o ps
+unfolding bandBytes
+read-pages img b i t o [] rest h n e r = tt
+read-pages img b i t o (p ∷ ps) rest h n e r =
+    let more = bandBytes (t + rootsIn p) (o + onBits (getD p 3 [])) ps ++ rest in
+    let here : drop (64 * pageNumber img b i) img ≡ pageBytes t o p ++ more = e ∙ simp append-assoc in
+    let step : 64 * pageNumber img b i + 64 ≡ 64 * pageNumber img b (suc i) = unfold pageNumber in omega arith in
+    let there : drop (64 * pageNumber img b (suc i)) img ≡ more =
+    ap (λ (k : ℕ). drop k img) (sym step) ∙ sym (drop-drop 64 (64 * pageNumber img b i) img) ∙ ap (drop 64) here ∙ drop-at (pageBytes t o p) more 64 (length-pageBytes t o p) in
+    let left : t + rootsIn p + rootsIn (glue ps) ≡ rootCount img b = omega (arith, glue-roots p ps h) in
+    let next : nextT img b i ≡ t + rootsIn p = next-of img b i (t + rootsIn p) (o + onBits (getD p 3 [])) ps rest (h .2) (omega arith) there left in
+    (page-is img b i t o p more (h .0) here next, read-pages img b (suc i) (t + rootsIn p) (o + onBits (getD p 3 [])) ps rest (h .2) (omega arith) there left)
+
+pub levels-read : (img : List ℕ) (b i t o : ℕ) (ps : List (List (List ℕ))) → AllRead img b i t o ps → map (pageLevels img b) (numbersFrom i (length ps)) ≡ ps
+unfolding numbersFrom
+levels-read img b i t o [] h = refl
+levels-read img b i t o (p ∷ ps) h = λ j. h .0 .levels-are j ∷ levels-read img b (suc i) _ _ ps (h .1) j
+
+-- what stood before page i
+abbrev Entered : List ℕ → ℕ → ℕ → ℕ → ℕ → List (List (List ℕ)) → Type 0
+Entered img b zero t o ps = (t ≡ 0) × (o ≡ 0)
+Entered img b (suc i) t o ps = (pageB img b i + outLinkCount img b i ≡ o) × Follows (pageNodes img b i) ps
+
+counters-at : (img : List ℕ) (b i t o : ℕ) (p : List (List ℕ)) (ps : List (List (List ℕ))) → PageIs img b i t o p → Entered img b i t o (p ∷ ps) → HeadRight img b i
+counters-at img b zero t o p ps h e = (h .T-is ∙ e .0, h .B-is ∙ e .1)
+counters-at img b (suc i) t o p ps h e = h .B-is ∙ sym (e .0)
+
+full-at : (img : List ℕ) (b i t o : ℕ) (p : List (List ℕ)) (ps : List (List (List ℕ))) → PageIs img b i t o p → Entered img b i t o (p ∷ ps) → PageNeeded img b i
+full-at img b zero t o p ps h e = tt
+full-at img b (suc i) t o p ps h e = rw (h .levels-are) (e .1)
+
+ok-at : (img : List ℕ) (b i t o : ℕ) (p : List (List ℕ)) (ps : List (List (List ℕ))) → Page p → PageIs img b i t o p → Entered img b i t o (p ∷ ps) → PageOk img b i
+ok-at img b i t o p ps g h e =
+    record {
+      counters = counters-at img b i t o p ps h e;
+      some-roots = rw (h .roots-is) (g .some-roots);
+      few-roots = omega (arith, h .roots-is, page-roots (rootsIn p) p (g .four) (g .shape), g .fits);
+      within = rw (h .nodes-are) (g .fits);
+      positive = rw (h .levels-are) (every-all (every isPositive) p (shape-positive (rootsIn p) p (g .shape)));
+      zeros = h .rest;
+      full = full-at img b i t o p ps h e;
+    }
+
+pub all-ok : (img : List ℕ) (b i t o : ℕ) (ps : List (List (List ℕ))) → Paged ps → AllRead img b i t o ps → Entered img b i t o ps → (j : ℕ) → i ≤ j → j < i + length ps → PageOk img b j
+unfolding outLinkCount
+all-ok img b i t o [] g h e j lo hi = absurd (omega arith)
+all-ok img b i t o (p ∷ ps) g h e j lo hi =
+    let links : outLinkCount img b i ≡ onBits (getD p 3 []) = ap (λ (v : List (List ℕ)). onBits (getD v 3 [])) (h .0 .levels-are) in
+    let next : Follows (pageNodes img b i) ps = rw (h .0 .nodes-are) (g .1) in
+    elim (ℕ-discrete i j) [
+      | yes s ↦ subst (PageOk img b) s (ok-at img b i t o p ps (g .0) (h .0) e)
+      | no s ↦ all-ok img b (suc i) (t + rootsIn p) (o + onBits (getD p 3 [])) ps (g .2) (h .1) (ap₂ _+_ (h .0 .B-is) links, next) j (omega arith) (omega arith)
+    ]
+
+-- ---- eight bands
+
+pub data Top (n r : ℕ) : Type 0 where
+  none : n ≡ 0 → r ≡ 0 → Top n r
+  some : 1 ≤ n → r ≡ 1 → Top n r
+
+-- eight bands that hang together, over n keys
+pub record Bands (n : ℕ) (band : ℕ → List (List ℕ)) : Type 0 where
+  pub four : (b : ℕ) → 1 ≤ b → b ≤ 8 → length (band b) ≡ 4
+  pub shape : (b : ℕ) → 1 ≤ b → b ≤ 8 → Shape (rootsIn (band b)) (band b)
+  pub links : (b : ℕ) → 1 ≤ b → b < 8 → onBits (getD (band b) 3 []) ≡ rootsIn (band (suc b))
+  pub last : onBits (getD (band 8) 3 []) ≡ n
+  pub few : n ≤ 4096
+  pub top : Top n (rootsIn (band 1))
+
+-- their bytes
+abbrev pub bytesOf : ℕ → (ℕ → List (List ℕ)) → List ℕ
+bytesOf n band = header n (map band bands) ++ flatMap (λ x. bandBytes 0 0 (pagesOf x)) (map band bands)
+
+paged-length : (ps : List (List (List ℕ))) → Paged ps → length ps ≤ rootsIn (glue ps)
+paged-length [] h = omega arith
+paged-length (p ∷ ps) h = omega (arith, glue-roots p ps h, h .0 .some-roots, paged-length ps (h .2))
+
+bytes-small : (t o : ℕ) (ps : List (List (List ℕ))) → Paged ps → t + rootsIn (glue ps) < 65536 → o + total (map (λ p. onBits (getD p 3 [])) ps) < 65536 → All Byte (bandBytes t o ps)
+unfolding bandBytes total
+bytes-small t o [] h ht ho = tt
+bytes-small t o (p ∷ ps) h ht ho =
+    all-append Byte (pageBytes t o p) (bandBytes (t + rootsIn p) (o + onBits (getD p 3 [])) ps) (pageBytes-small t o (rootsIn p) p (omega arith) (omega arith) (h .0 .shape))
+    (bytes-small (t + rootsIn p) (o + onBits (getD p 3 [])) ps (h .2) (omega (arith, glue-roots p ps h)) (omega arith))
+
+length-counts : (x : List (List ℕ)) → length (bandCounts x) ≡ 4
+unfolding bandCounts twoBytes
+length-counts x = refl
+
+length-pages : (band : ℕ → List (List ℕ)) (xs : List ℕ) → length (flatMap (λ x. bandBytes 0 0 (pagesOf x)) (map band xs)) ≡ 64 * total (map (λ b. length (pagesOf (band b))) xs)
+unfolding flatMap total
+length-pages band [] = refl
+length-pages band (b ∷ xs) =
+    length-append (bandBytes 0 0 (pagesOf (band b))) (flatMap (λ x. bandBytes 0 0 (pagesOf x)) (map band xs))
+    ∙ omega (arith, length-bandBytes 0 0 (pagesOf (band b)), length-pages band xs)
+
+module _ (n : ℕ) (band : ℕ → List (List ℕ)) (h : Bands n band) where
+  pub the-pages : (b : ℕ) → 1 ≤ b → b ≤ 8 → Pages (band b)
+  the-pages b lo hi = pages-of (rootsIn (band b)) (band b) (h .four b lo hi) (h .shape b lo hi)
+
+  grows : (b : ℕ) → 1 ≤ b → b ≤ 8 → rootsIn (band b) ≤ onBits (getD (band b) 3 [])
+  grows b lo hi = rw (← lastOn-four (rootsIn (band b)) (band b) (h .four b lo hi)) (lastOn-grows (rootsIn (band b)) (band b) (h .shape b lo hi))
+
+  -- no band has more roots than there are keys
+  links-few : (k b : ℕ) → 1 ≤ b → b + k ≡ 8 → onBits (getD (band b) 3 []) ≤ n
+  links-few zero b lo e = let eight : b ≡ 8 = omega arith in omega (arith, ap (λ (b : ℕ). onBits (getD (band b) 3 [])) eight, h .last)
+  links-few (suc k) b lo e = omega (arith, h .links b lo (omega arith), grows (suc b) (omega arith) (omega arith), links-few k (suc b) (omega arith) (omega arith))
+
+  pub few-links : (b : ℕ) → 1 ≤ b → b ≤ 8 → onBits (getD (band b) 3 []) ≤ n
+  few-links b lo hi = links-few (8 - b) b lo (omega arith)
+
+  pub few-roots : (b : ℕ) → 1 ≤ b → b ≤ 8 → rootsIn (band b) ≤ n
+  few-roots b lo hi = omega (arith, grows b lo hi, few-links b lo hi)
+
+  -- with keys, each band has a root
+  some-roots : (k : ℕ) → suc k ≤ 8 → 1 ≤ rootsIn (band 1) → 1 ≤ rootsIn (band (suc k))
+  some-roots zero hi e = e
+  some-roots (suc k) hi e = omega (arith, some-roots k (omega arith) e, h .links (suc k) (omega arith) (omega arith), grows (suc k) (omega arith) (omega arith))
+
+  pub few-pages : (b : ℕ) → 1 ≤ b → b ≤ 8 → length (pagesOf (band b)) ≤ rootsIn (band b)
+  few-pages b lo hi = let p = the-pages b lo hi in rw (p .glued) at (paged-length (pagesOf (band b)) (p .paged))
+
+  some-pages : (b : ℕ) → 1 ≤ b → b ≤ 8 → 1 ≤ rootsIn (band b) → 1 ≤ length (pagesOf (band b))
+  some-pages b lo hi k = go (pagesOf (band b)) (the-pages b lo hi .glued)
+    where
+      go : (ps : List (List (List ℕ))) → glue ps ≡ band b → 1 ≤ length ps
+      go [] e = absurd (omega (arith, roots-none, ap rootsIn e))
+      go (p ∷ ps) e = omega arith
+
+-- ---- the bytes, read
+
+length-header : (n : ℕ) (xs : List (List (List ℕ))) → length xs ≡ 8 → length (header n xs) ≡ 64
+unfolding header twoBytes
+length-header n xs e =
+    length-append (0x4C ∷ 0x50 ∷ 0x54 ∷ 0 ∷ 1 ∷ 0 ∷ twoBytes n ++ flatMap bandCounts xs) (replicate 24 0) ∙ omega (arith, length-flatMap bandCounts 4 xs (all xs))
+  where
+    all : (xs : List (List (List ℕ))) → All (λ x. length (bandCounts x) ≡ 4) xs
+    all [] = tt
+    all (x ∷ xs) = (length-counts x, all xs)
+
+-- the parts of the bytes
+pub record Parts (n : ℕ) (band : ℕ → List (List ℕ)) (img : List ℕ) : Type 0 where
+  pub six : take 6 img ≡ 0x4C ∷ 0x50 ∷ 0x54 ∷ 0 ∷ 1 ∷ 0 ∷ []
+  pub from-6 : drop 6 img ≡ twoBytes n ++ (flatMap bandCounts (map band bands) ++ (replicate 24 0 ++ flatMap (λ x. bandBytes 0 0 (pagesOf x)) (map band bands)))
+  pub from-8 : drop 8 img ≡ flatMap bandCounts (map band bands) ++ (replicate 24 0 ++ flatMap (λ x. bandBytes 0 0 (pagesOf x)) (map band bands))
+  pub from-40 : take 24 (drop 40 img) ≡ replicate 24 0
+  pub from-64 : drop 64 img ≡ flatMap (λ x. bandBytes 0 0 (pagesOf x)) (map band bands)
+  pub size : length img ≡ 64 * (1 + total (map (λ b. length (pagesOf (band b))) bands))
+
+eight : (band : ℕ → List (List ℕ)) → length (map band bands) ≡ 8
+unfolding bands numbersFrom
+eight band = refl
+
+length-32 : (xs : List (List (List ℕ))) → length xs ≡ 8 → length (flatMap bandCounts xs) ≡ 32
+length-32 xs e = length-flatMap bandCounts 4 xs (all xs) ∙ omega arith
+  where
+    all : (xs : List (List (List ℕ))) → All (λ x. length (bandCounts x) ≡ 4) xs
+    all [] = tt
+    all (x ∷ xs) = (length-counts x, all xs)
+
+header-parts : (n : ℕ) (F R body : List ℕ) → (0x4C ∷ 0x50 ∷ 0x54 ∷ 0 ∷ 1 ∷ 0 ∷ twoBytes n ++ F ++ R) ++ body ≡ 0x4C ∷ 0x50 ∷ 0x54 ∷ 0 ∷ 1 ∷ 0 ∷ twoBytes n ++ (F ++ (R ++ body))
+header-parts n F R body = simp append-assoc
+
+pub parts : (n : ℕ) (band : ℕ → List (List ℕ)) → Parts n band (bytesOf n band)
+unfolding header
+parts n band =
+    let F = flatMap bandCounts (map band bands) in
+    let R : List ℕ = replicate 24 0 in
+    let body = flatMap (λ x. bandBytes 0 0 (pagesOf x)) (map band bands) in
+    let e : bytesOf n band ≡ 0x4C ∷ 0x50 ∷ 0x54 ∷ 0 ∷ 1 ∷ 0 ∷ twoBytes n ++ (F ++ (R ++ body)) = header-parts n F R body in
+    let e₈ : drop 8 (bytesOf n band) ≡ F ++ (R ++ body) = ap (drop 8) e ∙ (unfold twoBytes in refl) in
+    record {
+      six = ap (take 6) e;
+      from-6 = ap (drop 6) e;
+      from-8 = e₈;
+      from-40 = ap (take 24) (sym (drop-drop 32 8 (bytesOf n band)) ∙ ap (drop 32) e₈ ∙ drop-at F (R ++ body) 32 (length-32 (map band bands) (eight band)));
+      from-64 = drop-at (header n (map band bands)) body 64 (length-header n (map band bands) (eight band));
+      size = length-append (header n (map band bands)) body ∙ omega (arith, length-header n (map band bands) (eight band), length-pages band bands);
+    }
+
+counts-from : (band : ℕ → List (List ℕ)) (img R : List ℕ) → drop 8 img ≡ flatMap bandCounts (map band bands) ++ R
+    → (k m : ℕ) → suc k + m ≡ 9 → drop (4 + 4 * suc k) img ≡ flatMap bandCounts (map band (numbersFrom (suc k) m)) ++ R
+unfolding flatMap numbersFrom bands
+counts-from band img R e zero m n =
+    let eight : 8 ≡ m = omega arith in
+    e ∙ ap (λ (m : ℕ). flatMap bandCounts (map band (numbersFrom 1 m)) ++ R) eight
+counts-from band img R e (suc k) m n =
+    let next : 4 + 4 * suc (suc k) ≡ 4 + 4 * suc k + 4 = omega arith in
+    let more = flatMap bandCounts (map band (numbersFrom (suc (suc k)) m)) ++ R in
+    ap (λ (j : ℕ). drop j img) next
+    ∙ sym (drop-drop 4 (4 + 4 * suc k) img)
+    ∙ ap (drop 4) (counts-from band img R e k (suc m) (omega arith) ∙ append-assoc (bandCounts (band (suc k))) (flatMap bandCounts (map band (numbersFrom (suc (suc k)) m))) R)
+    ∙ drop-at (bandCounts (band (suc k))) more 4 (length-counts (band (suc k)))
+
+record CountsAt (band : ℕ → List (List ℕ)) (img : List ℕ) (b : ℕ) : Type 0 where
+  pages-are : pageCount img b ≡ length (pagesOf (band b))
+  roots-are : rootCount img b ≡ rootsIn (band b)
+
+counts-at : (band : ℕ → List (List ℕ)) (img R : List ℕ) → drop 8 img ≡ flatMap bandCounts (map band bands) ++ R → (k m : ℕ) → suc k + suc m ≡ 9 → CountsAt band img (suc k)
+unfolding flatMap numbersFrom bandCounts pageCount rootCount
+counts-at band img R e k m n =
+    let more = flatMap bandCounts (map band (numbersFrom (suc (suc k)) m)) ++ R in
+    let here : drop (4 + 4 * suc k) img ≡ twoBytes (length (pagesOf (band (suc k)))) ++ (twoBytes (rootsIn (band (suc k))) ++ more) = counts-from band img R e k (suc m) n ∙ simp append-assoc in
+    let next : 4 + 4 * suc k + 2 ≡ 6 + 4 * suc k = omega arith in
+    let there : drop (6 + 4 * suc k) img ≡ twoBytes (rootsIn (band (suc k))) ++ more = ap (λ (j : ℕ). drop j img) (sym next) ∙ sym (drop-drop 2 (4 + 4 * suc k) img) ∙ ap (drop 2) here ∙ (unfold twoBytes in refl) in
+    record { pages-are = number-of img (4 + 4 * suc k) _ _ here; roots-are = number-of img (6 + 4 * suc k) _ _ there }
+
+module _ (n : ℕ) (band : ℕ → List (List ℕ)) (h : Bands n band) (img : List ℕ) (p : Parts n band img) where
+  counts-in : (b : ℕ) → 1 ≤ b → b ≤ 8 → CountsAt band img b
+  counts-in b lo hi =
+      let e : suc (b - 1) ≡ b = omega arith in
+      subst (CountsAt band img) e (counts-at band img _ (p .from-8) (b - 1) (8 - b) (omega arith))
+
+  keys-in : keyCount img ≡ n
+  unfolding keyCount
+  keys-in = number-of img 6 n _ (p .from-6)
+
+  pages-from : (k m : ℕ) → suc k + m ≡ 9 → drop (64 * (1 + pagesBefore img (suc k))) img ≡ flatMap (λ x. bandBytes 0 0 (pagesOf x)) (map band (numbersFrom (suc k) m))
+  unfolding flatMap numbersFrom bands pagesBefore total
+  pages-from zero m e = let eight : 8 ≡ m = omega arith in p .from-64 ∙ ap (λ (m : ℕ). flatMap (λ x. bandBytes 0 0 (pagesOf x)) (map band (numbersFrom 1 m))) eight
+  pages-from (suc k) m e =
+      let c = counts-in (suc k) (omega arith) (omega arith) in
+      let at : ℕ = 64 * (1 + pagesBefore img (suc k)) in
+      let size : length (bandBytes 0 0 (pagesOf (band (suc k)))) ≡ 64 * pageCount img (suc k) = length-bandBytes 0 0 (pagesOf (band (suc k))) ∙ ap (64 *_) (sym (c .pages-are)) in
+      let next : 64 * (1 + pagesBefore img (suc (suc k))) ≡ at + 64 * pageCount img (suc k) = omega (arith, pagesBefore-suc img (suc k) (omega arith)) in
+      ap (λ (j : ℕ). drop j img) next
+      ∙ sym (drop-drop (64 * pageCount img (suc k)) at img)
+      ∙ ap (drop (64 * pageCount img (suc k))) (pages-from k (suc m) (omega arith))
+      ∙ drop-at (bandBytes 0 0 (pagesOf (band (suc k)))) (flatMap (λ x. bandBytes 0 0 (pagesOf x)) (map band (numbersFrom (suc (suc k)) m))) (64 * pageCount img (suc k)) size
+
+  band-read : (b : ℕ) → 1 ≤ b → b ≤ 8 → AllRead img b 0 0 0 (pagesOf (band b))
+  unfolding flatMap numbersFrom pageNumber
+  band-read b lo hi =
+      let g = the-pages n band h b lo hi in
+      let c = counts-in b lo hi in
+      let k : suc (b - 1) ≡ b = omega arith in
+      let from : drop (64 * (1 + pagesBefore img b)) img ≡ flatMap (λ x. bandBytes 0 0 (pagesOf x)) (map band (numbersFrom b (suc (8 - b)))) =
+      subst (λ (j : ℕ). drop (64 * (1 + pagesBefore img j)) img ≡ flatMap (λ x. bandBytes 0 0 (pagesOf x)) (map band (numbersFrom j (suc (8 - b))))) k (pages-from (b - 1) (suc (8 - b)) (omega arith)) in
+      let here : 64 * (1 + pagesBefore img b + 0) ≡ 64 * (1 + pagesBefore img b) = omega arith in
+      read-pages img b 0 0 0 (pagesOf (band b)) (flatMap (λ x. bandBytes 0 0 (pagesOf x)) (map band (numbersFrom (suc b) (8 - b)))) (g .paged)
+      (omega (arith, c .pages-are)) (ap (λ (j : ℕ). drop j img) here ∙ from) (omega (arith, c .roots-are, ap rootsIn (g .glued)))
+
+  pub pages-in : (b : ℕ) → 1 ≤ b → b ≤ 8 → map (pageLevels img b) (upTo (pageCount img b)) ≡ pagesOf (band b)
+  unfolding upTo
+  pages-in b lo hi = ap (λ (m : ℕ). map (pageLevels img b) (numbersFrom 0 m)) (counts-in b lo hi .pages-are) ∙ levels-read img b 0 0 0 (pagesOf (band b)) (band-read b lo hi)
+
+  link-in : (b : ℕ) → 1 ≤ b → b ≤ 8 → total (map (outLinkCount img b) (upTo (pageCount img b))) ≡ onBits (getD (band b) 3 [])
+  unfolding outLinkCount
+  link-in b lo hi =
+      let g = the-pages n band h b lo hi in
+      ap total (sym (map-map (λ p. onBits (getD p 3 [])) (pageLevels img b) (upTo (pageCount img b))) ∙ ap (map (λ p. onBits (getD p 3 []))) (pages-in b lo hi))
+      ∙ sym (glue-links (pagesOf (band b)) (g .paged))
+      ∙ ap (λ (v : List (List ℕ)). onBits (getD v 3 [])) (g .glued)
+
+  below-in : (b : ℕ) → 1 ≤ b → b ≤ 8 → onBits (getD (band b) 3 []) ≡ outLinksDue img b
+  unfolding outLinksDue
+  below-in b lo hi =
+      elim (ℕ-discrete b 8) [
+        | yes e ↦ ap (λ (b : ℕ). onBits (getD (band b) 3 [])) e ∙ h .last ∙ sym keys-in ∙ sym (cond-no (ltb b 8) (rootCount img (b + 1)) (keyCount img) (le-ltb b 8 (omega arith)))
+        | no e ↦ h .links b lo (omega arith)
+            ∙ sym (counts-in (suc b) (omega arith) (omega arith) .roots-are)
+            ∙ ap (rootCount img) (sym (add-one b))
+            ∙ sym (cond-yes (ltb b 8) (rootCount img (b + 1)) (keyCount img) (lt-ltb b 8 (omega arith)))
+      ]
+
+  counts-ok : Counts img
+  counts-ok = go (h .top)
+    where
+      go : Top n (rootsIn (band 1)) → Counts img
+      go (none e r) =
+          no-keys (keys-in ∙ e)
+          (λ b lo hi. (omega (arith, counts-in b lo hi .pages-are, few-pages n band h b lo hi, few-roots n band h b lo hi), omega (arith, counts-in b lo hi .roots-are, few-roots n band h b lo hi)))
+      go (some e r) =
+          some-keys (omega (arith, keys-in)) (omega (arith, counts-in 1 (omega arith) (omega arith) .pages-are, few-pages n band h 1 (omega arith) (omega arith), some-pages n band h 1 (omega arith) (omega arith) (omega arith)))
+          (counts-in 1 (omega arith) (omega arith) .roots-are ∙ r) (λ b lo hi. more b (omega arith) hi)
+        where
+          more : (b : ℕ) → 1 ≤ b → b ≤ 8 → (1 ≤ pageCount img b) × (1 ≤ rootCount img b)
+          more b lo hi =
+              let k : suc (b - 1) ≡ b = omega arith in
+              let s : 1 ≤ rootsIn (band b) = subst (λ (b : ℕ). 1 ≤ rootsIn (band b)) k (some-roots n band h (b - 1) (omega arith) (omega arith)) in
+              (omega (arith, counts-in b lo hi .pages-are, some-pages n band h b lo hi s), omega (arith, counts-in b lo hi .roots-are))
+
+  header-ok : Header img
+  unfolding numberAt
+  header-ok =
+      let at : (k : ℕ) → k < 6 → getD img k 0 ≡ getD (take 6 img) k 0 = λ k l. sym (getD-take 6 img k 0 l) in
+      let x : getD img 3 0 ≡ 0 = at 3 (omega arith) ∙ ap (λ (l : List ℕ). getD l 3 0) (p .six) in
+      let y : getD img 4 0 ≡ 1 = at 4 (omega arith) ∙ ap (λ (l : List ℕ). getD l 4 0) (p .six) in
+      record {
+        long = omega (arith, p .size);
+        mark₀ = at 0 (omega arith) ∙ ap (λ (l : List ℕ). getD l 0 0) (p .six);
+        mark₁ = at 1 (omega arith) ∙ ap (λ (l : List ℕ). getD l 1 0) (p .six);
+        mark₂ = at 2 (omega arith) ∙ ap (λ (l : List ℕ). getD l 2 0) (p .six);
+        version = omega arith;
+        few = rw keys-in (h .few);
+        five = at 5 (omega arith) ∙ ap (λ (l : List ℕ). getD l 5 0) (p .six);
+        tail = rw (p .from-40) (zeros-all 24);
+        size = p .size ∙ ap (λ (l : List ℕ). 64 * (1 + total l)) (map-same (λ b. length (pagesOf (band b))) (pageCount img) bands (unfold bands in all-numbers (λ b. length (pagesOf (band b)) ≡ pageCount img b) 1 8 (λ b lo hi. sym (counts-in b lo (omega arith) .pages-are))));
+        counts = counts-ok;
+      }
+
+  pub is-checked : Checked img
+  is-checked =
+      record {
+        header = header-ok;
+        page = λ b i lo hi k. all-ok img b 0 0 0 (pagesOf (band b)) (the-pages n band h b lo hi .paged) (band-read b lo hi) (refl, refl) i (omega arith) (omega (arith, counts-in b lo hi .pages-are));
+        link = λ b lo hi. link-in b lo hi ∙ below-in b lo hi;
+      }
+
+  -- the bands are found in the bytes
+  pub bands-in : (b : ℕ) → 1 ≤ b → b ≤ 8 → All Byte img → bandLevels img b ≡ band b
+  bands-in b lo hi a = band-glued img a is-checked b lo hi ∙ ap glue (pages-in b lo hi) ∙ the-pages n band h b lo hi .glued
+
+-- and they are bytes
+module _ (n : ℕ) (band : ℕ → List (List ℕ)) (h : Bands n band) where
+  counts-bytes : (b : ℕ) → 1 ≤ b → b ≤ 8 → All Byte (bandCounts (band b))
+  unfolding bandCounts
+  counts-bytes b lo hi =
+      let r = few-roots n band h b lo hi in
+      let f = h .few in
+      all-append Byte (twoBytes (length (pagesOf (band b)))) (twoBytes (rootsIn (band b))) (twoBytes-small (length (pagesOf (band b))) (omega (arith, few-pages n band h b lo hi))) (twoBytes-small (rootsIn (band b)) (omega arith))
+
+  pages-bytes : (b : ℕ) → 1 ≤ b → b ≤ 8 → All Byte (bandBytes 0 0 (pagesOf (band b)))
+  pages-bytes b lo hi =
+      let g = the-pages n band h b lo hi in
+      let f = h .few in
+      bytes-small 0 0 (pagesOf (band b)) (g .paged) (omega (arith, few-roots n band h b lo hi, ap rootsIn (g .glued)))
+      (omega (arith, few-links n band h b lo hi, glue-links (pagesOf (band b)) (g .paged), ap (λ (v : List (List ℕ)). onBits (getD v 3 [])) (g .glued)))
+
+  header-bytes : All Byte (header n (map band bands))
+  unfolding header bands
+  header-bytes =
+      let start : List ℕ = 0x4C ∷ 0x50 ∷ 0x54 ∷ 0 ∷ 1 ∷ 0 ∷ twoBytes n in
+      let counts = flatMap bandCounts (map band bands) in
+      all-append Byte (start ++ counts) (replicate 24 0)
+      (all-append Byte start counts (omega arith, (omega arith, (omega arith, (omega arith, (omega arith, (omega arith, twoBytes-small n (omega (arith, h .few))))))))
+      (all-flatMap bandCounts Byte (map band bands) (all-map band (λ x. All Byte (bandCounts x)) bands (all-numbers (λ b. All Byte (bandCounts (band b))) 1 8 (λ b lo hi. counts-bytes b lo (omega arith))))))
+      (all-to (λ z. z ≡ 0) Byte (λ z e. omega arith) (replicate 24 0) (zeros-all 24))
+
+  pub all-bytes : All Byte (bytesOf n band)
+  unfolding bands
+  all-bytes =
+      all-append Byte (header n (map band bands)) (flatMap (λ x. bandBytes 0 0 (pagesOf x)) (map band bands)) header-bytes
+      (all-flatMap (λ x. bandBytes 0 0 (pagesOf x)) Byte (map band bands) (all-map band (λ x. All Byte (bandBytes 0 0 (pagesOf x))) bands (all-numbers (λ b. All Byte (bandBytes 0 0 (pagesOf (band b)))) 1 8 (λ b lo hi. pages-bytes b lo (omega arith)))))

@@ -1,0 +1,13 @@
+pub mod Seq
+pub mod Key
+pub mod Trie
+pub mod Band
+pub mod Page
+pub mod Image
+pub mod Question
+pub mod Writer
+pub mod Answer
+pub mod Scan
+pub mod Text
+pub mod Exact
+pub mod Plates

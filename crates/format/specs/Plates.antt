@@ -1,0 +1,51 @@
+-- What the starred sample plates say, of the definitions. The proof is in proofs/Plates.antt.
+-- Assumes nothing.
+use mathlib.Core.Path.{_≡_}
+use Prim.Native.Nat.{ℕ, _-_}
+use mathlib.Core.List.{List, [], _∷_, _++_, flatMap}
+use lib.ListN.{length, replicate}
+use Rattle.format.specs.Seq.{upTo}
+use Rattle.format.specs.Key.{keyOf}
+use Rattle.format.specs.Image.{keysOf}
+use Rattle.format.specs.Writer.{imageOf}
+use Rattle.format.specs.Question.{returns}
+use Rattle.format.specs.Answer.{check, count, memberKeys}
+use Rattle.format.specs.declared.Rectangle.{Rectangle}
+
+-- an image of one page a band, from the key count, the bands' root counts and the pages' node bytes up to the last that is not zero
+unfoldable pub onePageHeader : ℕ → List ℕ → List ℕ
+onePageHeader n roots = 0x4C ∷ 0x50 ∷ 0x54 ∷ 0 ∷ 1 ∷ 0 ∷ 0 ∷ n ∷ flatMap (λ r. 0 ∷ 1 ∷ 0 ∷ r ∷ []) roots ++ replicate 24 0
+
+unfoldable pub firstPage : List ℕ → List ℕ
+firstPage nodes = 0 ∷ 0 ∷ 0 ∷ 0 ∷ nodes ++ replicate (60 - length nodes) 0
+
+unfoldable pub onePageImage : ℕ → List ℕ → List (List ℕ) → List ℕ
+onePageImage n roots nodes = onePageHeader n roots ++ flatMap firstPage nodes
+
+-- the keys' image has these bytes, the checker accepts it, and its list is the keys
+pub record Image-is (keys img : List ℕ) : Type 0 where
+  pub bytes : imageOf keys ≡ img
+  pub accepted : check (imageOf keys) ≡ returns (length keys)
+  pub list : keysOf (imageOf keys) ≡ keys
+
+-- plate 11's rectangle: holders 2 to 3, slot 1
+abbrev pub plate11 : Rectangle
+plate11 = record { holders = record { low = 2; high = 3 }; slots = record { low = 1; high = 1 } }
+
+pub record Plates : Type 0 where
+  pub plate-1 : keyOf 0 0 ≡ 0
+  pub plate-2 : keyOf 0 1 ≡ 1
+  pub plate-3 : keyOf 1 0 ≡ 2
+  pub plate-4 : keyOf 3 1 ≡ 11
+  pub plate-5 : keyOf 65535 0 ≡ 2863311530
+  pub plate-6 : keyOf 65535 65535 ≡ 4294967295
+  pub plate-7 : Image-is [] (0x4C ∷ 0x50 ∷ 0x54 ∷ 0 ∷ 1 ∷ replicate 59 0)
+  pub plate-8 : Image-is (0 ∷ []) (onePageImage 1 (replicate 8 1) (replicate 8 (0xAA ∷ [])))
+  pub plate-8-length : length (imageOf (0 ∷ [])) ≡ 576
+  pub plate-9 : Image-is (0 ∷ 1 ∷ []) (onePageImage 2 (replicate 8 1) (replicate 7 (0xAA ∷ []) ++ (0xAB ∷ []) ∷ []))
+  pub plate-10 : Image-is (0 ∷ 4294967295 ∷ []) (onePageImage 2 (1 ∷ replicate 7 2) ((0xE6 ∷ 0x64 ∷ []) ∷ replicate 7 (0x99 ∷ 0x99 ∷ [])))
+  pub plate-11 : memberKeys (imageOf (upTo 16)) plate11 ≡ 9 ∷ 11 ∷ []
+  pub plate-11-count : count (imageOf (upTo 16)) plate11 ≡ returns 2
+  pub plate-12 : Image-is (3 ∷ 44 ∷ 128 ∷ 133 ∷ 136 ∷ 160 ∷ 172 ∷ 192 ∷ [])
+      (onePageImage 8 (replicate 7 1 ++ 5 ∷ [])
+      (replicate 6 (0xAA ∷ []) ++ (0xEF ∷ 0xEA ∷ 0xA8 ∷ []) ∷ (0x9F ∷ 0xA7 ∷ 0xA6 ∷ 0x6A ∷ 0xAA ∷ 0x69 ∷ 0xAA ∷ []) ∷ []))

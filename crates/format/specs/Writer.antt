@@ -1,0 +1,106 @@
+-- The image of a list of keys, and the writer's job.
+-- Assumes nothing.
+use Prim.Native.Nat.{ℕ, zero, suc, _+_, _*_}
+use mathlib.Core.Bool.{Bool, true, false, _&&_}
+use mathlib.Core.List.{List, [], _∷_, _++_, flatMap, flatten}
+use lib.Dec.{leb, ltb}
+use lib.ListN.{length, getD, take, drop, replicate}
+use Rattle.format.specs.Seq.{every}
+use Rattle.format.specs.Trie.{levelsOf, onBits}
+use Rattle.format.specs.Page.{firstSubtries, laterSubtries, nodeCount, nodeBytes, twoBytes}
+use Rattle.format.specs.Key.{woven}
+use Rattle.format.specs.Question.{Question, Outcome, settle, filled}
+
+-- ---- bands, subtries and pages
+
+-- levels in n bands of four
+unfoldable pub bandsIn : ℕ → List (List ℕ) → List (List (List ℕ))
+bandsIn zero levels = []
+bandsIn (suc n) levels = take 4 levels ∷ bandsIn n (drop 4 levels)
+
+-- the eight bands of a list of keys
+unfoldable pub bandsOf : List ℕ → List (List (List ℕ))
+bandsOf keys = bandsIn 8 (levelsOf keys)
+
+-- the roots of a band or a page
+unfoldable pub rootsIn : List (List ℕ) → ℕ
+rootsIn band = length (getD band 0 [])
+
+-- the node counts of the first n subtries of a band
+unfoldable pub subtrieSizes : ℕ → List (List ℕ) → List ℕ
+subtrieSizes zero band = []
+subtrieSizes (suc n) band = nodeCount 1 (firstSubtries 1 band) ∷ subtrieSizes n (laterSubtries 1 band)
+
+-- How many subtries go on each page: n subtries with used nodes are on the open page, and sizes are the node counts of those to come.
+-- The next subtrie joins the open page if the page then has at most 240 nodes, else it starts a new page.
+unfoldable pub pack : ℕ → ℕ → List ℕ → List ℕ
+pack n used [] = n ∷ []
+pack n used (size ∷ sizes) = elim (leb (used + size) 240) [ true ↦ pack (n + 1) (used + size) sizes | false ↦ n ∷ pack 1 size sizes ]
+
+unfoldable pub subtriesPerPage : List ℕ → List ℕ
+subtriesPerPage [] = []
+subtriesPerPage (size ∷ sizes) = pack 1 size sizes
+
+-- a band cut into pages of so many subtries
+unfoldable pub cut : List ℕ → List (List ℕ) → List (List (List ℕ))
+cut [] band = []
+cut (n ∷ ns) band = firstSubtries n band ∷ cut ns (laterSubtries n band)
+
+-- the pages of a band
+unfoldable pub pagesOf : List (List ℕ) → List (List (List ℕ))
+pagesOf band = cut (subtriesPerPage (subtrieSizes (rootsIn band) band)) band
+
+-- ---- bytes
+
+-- a page's 64 bytes, and those of a band's pages, where t roots and b out-links of the band stand before them: T and B
+unfoldable pub pageBytes : ℕ → ℕ → List (List ℕ) → List ℕ
+pageBytes t b page = twoBytes t ++ twoBytes b ++ nodeBytes 60 (flatten page)
+
+unfoldable pub bandBytes : ℕ → ℕ → List (List (List ℕ)) → List ℕ
+bandBytes t b [] = []
+bandBytes t b (page ∷ pages) = pageBytes t b page ++ bandBytes (t + rootsIn page) (b + onBits (getD page 3 [])) pages
+
+-- a band's page count and root count
+unfoldable pub bandCounts : List (List ℕ) → List ℕ
+bandCounts band = twoBytes (length (pagesOf band)) ++ twoBytes (rootsIn band)
+
+-- the 64 bytes of the header: n keys
+unfoldable pub header : ℕ → List (List (List ℕ)) → List ℕ
+header n bands = 0x4C ∷ 0x50 ∷ 0x54 ∷ 0 ∷ 1 ∷ 0 ∷ twoBytes n ++ flatMap bandCounts bands ++ replicate 24 0
+
+-- the image of a list of keys
+unfoldable pub imageOf : List ℕ → List ℕ
+imageOf keys = header (length keys) (bandsOf keys) ++ flatMap (λ band. bandBytes 0 0 (pagesOf band)) (bandsOf keys)
+
+-- ---- the job
+
+-- 15: each key is below the next
+unfoldable pub ascending : List ℕ → Bool
+ascending [] = true
+ascending (x ∷ []) = true
+ascending (x ∷ y ∷ ys) = ltb x y && ascending (y ∷ ys)
+
+-- 14 to 16, and 17
+unfoldable pub listQuestions : List ℕ → List Question
+listQuestions keys =
+    (14, leb (length keys) 4096)
+    ∷ (15, ascending keys)
+    ∷ (16, every (λ band. ltb (length (pagesOf band)) 65536) (bandsOf keys))
+    ∷ []
+
+unfoldable pub roomQuestion : List ℕ → List ℕ → Question
+roomQuestion keys buffer = (17, leb (length (imageOf keys)) (length buffer))
+
+-- the writer on keys: returns the image's length and fills just that many first bytes of the buffer
+unfoldable pub writeKeys : List ℕ → List ℕ → Outcome ℕ
+writeKeys keys buffer = settle (listQuestions keys ++ roomQuestion keys buffer ∷ []) (length (imageOf keys))
+
+unfoldable pub bufferAfterWriteKeys : List ℕ → List ℕ → List ℕ
+bufferAfterWriteKeys keys buffer = filled (writeKeys keys buffer) (imageOf keys) buffer
+
+-- and on admissions
+unfoldable pub write : List (ℕ × ℕ) → List ℕ → Outcome ℕ
+write list buffer = writeKeys (woven list) buffer
+
+unfoldable pub bufferAfterWrite : List (ℕ × ℕ) → List ℕ → List ℕ
+bufferAfterWrite list buffer = bufferAfterWriteKeys (woven list) buffer

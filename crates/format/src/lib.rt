@@ -1,0 +1,34 @@
+// The types that the jobs share. The definitions of the format are in specs/, the laws about them in proofs/.
+ghost use mathlib.Core.Path.{_≡_};
+ghost use Rattle.format.specs.Band.{crossed};
+
+// A holder number and a slot number.
+pub struct Admission {
+    pub holder: u16,
+    pub slot: u16,
+}
+
+// The numbers from `low` to `high`, ends included.
+pub struct Range {
+    pub low: u16,
+    pub high: u16,
+}
+
+// The admissions whose holder and slot lie in these ranges.
+pub struct Rectangle {
+    pub holders: Range,
+    pub slots: Range,
+}
+
+// The number of a root of a band, counted from 0.
+pub struct Root(pub usize);
+
+// The number of an out-link of a band, counted from 0: of an on bit of the band's fourth level.
+pub struct OutLink(pub usize);
+
+// The one place where an out-link becomes a root: out-link n of a band leads to root n of the band below.
+pub fn cross(link: OutLink) -> Root
+    ensures { λ r. ⌜ r ≡ crossed link ⌝ }
+{
+    Root(link.0)
+}
