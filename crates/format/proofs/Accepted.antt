@@ -33,6 +33,15 @@ yes-of-returned img e = go (firstNo (imageQuestions img)) refl e
     go none d k = d
     go (some n) d k = cc
 
+-- it returns nothing else
+pub returned-same : (img : List ℕ) (n : ℕ) → check img ≡ returns n → check img ≡ returns (keyCount img)
+unfolding check settle outcome
+returned-same img n e = go (firstNo (imageQuestions img)) refl e
+  where
+    go : (o : Option ℕ) → firstNo (imageQuestions img) ≡ o → outcome o (keyCount img) ≡ returns n → outcome (firstNo (imageQuestions img)) (keyCount img) ≡ returns (keyCount img)
+    go none d k = rw d
+    go (some m) d k = cc
+
 pub returned-of-yes : (img : List ℕ) → AllYes img → check img ≡ returns (keyCount img)
 unfolding check settle outcome
 returned-of-yes img e = rw e

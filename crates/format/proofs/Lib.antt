@@ -22,4 +22,7 @@ pub mod Counting
 pub mod Runs
 pub mod Accepted
 pub mod Exact
+pub mod Raised
+pub mod PageFacts
+pub mod Flips
 pub mod Plates

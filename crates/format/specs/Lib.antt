@@ -10,4 +10,5 @@ pub mod Answer
 pub mod Scan
 pub mod Text
 pub mod Exact
+pub mod Flip
 pub mod Plates
