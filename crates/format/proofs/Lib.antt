@@ -8,6 +8,7 @@ pub mod Bytes
 pub mod Checked
 pub mod Read
 pub mod Back
+pub mod Counters
 pub mod Written
 pub mod Forth
 pub mod Members
@@ -21,6 +22,7 @@ pub mod Cells
 pub mod Counting
 pub mod Runs
 pub mod Accepted
+pub mod Sentences
 pub mod Exact
 pub mod Raised
 pub mod PageFacts

@@ -10,7 +10,7 @@ use native.Mathlib.Decide.{decLt}
 use lib.ListN.{length, getD, take, length-append, List·getD-append}
 use lib.Seq.{getD-append-add, take-append-add, take-append-le}
 use Rattle.format.specs.Seq.{lastBelow, numbersFrom, total}
-use Rattle.format.specs.Trie.{bits, onBits}
+use Rattle.format.specs.Trie.{onBits}
 use Rattle.format.specs.Page.{nodeCount}
 use Rattle.format.proofs.Trie.{Shape, Nodes}
 use Rattle.format.proofs.Subtries.{onBits-append}

@@ -10,7 +10,7 @@ use lib.Dec.{leb}
 use borrow.Author.Tests.{le-leb, lt-leb}
 use lib.ListN.{length, getD, take, drop, length-drop, take-append-drop}
 use lib.Seq.{take-suc, drop-cons, take-all}
-use Rattle.format.specs.Seq.{All, numbersFrom, rankIn, select, total, upTo}
+use Rattle.format.specs.Seq.{All, numbersFrom, rankIn, total, upTo}
 use Rattle.format.specs.Trie.{below, descend, onBits}
 use Rattle.format.specs.Page.{Byte}
 use Rattle.format.specs.Image.{bandLevel, bandLevels, bands, imageLevels, keyCount, keysOf, outLinkCount, pageB, pageCount, pageLevels, pageNodes, pageNumber, pagePairs, pageRoots, pageT, rootCount}
@@ -20,6 +20,7 @@ use Rattle.format.proofs.Trie.{Shape, Nodes, Asc, lastOn, shape-left, s
 use Rattle.format.proofs.Bytes.{levels-join}
 use Rattle.format.proofs.Checked.{Checked, Counts, no-keys, some-keys}
 use Rattle.format.proofs.Read.{page-four, page-shape, page-roots, next-roots, next-more, next-last, band-four, band-roots}
+use Rattle.format.proofs.Counters.{T-counts, B-counts}
 use Rattle.format.proofs.Back.{image-shape, image-32}
 use Rattle.format.proofs.Descent.{bit, childAt, node-at, child-place, length-below, child-prefix, rank-at, bit-of-mem, key-prefix}
 use Rattle.format.proofs.Places.{offset, place-node, place-child, offset-all, offset-within, offset-le, level-next, lengths, run-at, run-within, run-before, fours-at, last-below}
@@ -126,30 +127,20 @@ module _ (img : List ℕ) (a : All Byte img) (c : Checked img) (some : 1 ≤ key
         at (suc (suc (suc (suc l)))) h = absurd (omega arith)
 
     -- T counts the roots before a page
-    T-from : (s i : ℕ) → s + i < pageCount img b → pageT img b s + lengths (λ k. getD (pageLevels img b k) 0 []) s i ≡ pageT img b (s + i)
-    unfolding numbersFrom total
-    T-from s zero h = omega (arith, ap (pageT img b) (add-zero s))
-    T-from s (suc i) h =
-        let e : s + suc i ≡ suc s + i = omega arith in
-        omega (arith, ap (pageT img b) e, T-from (suc s) i (omega arith), next-roots img a c b lo hi s (omega arith), next-more img a c b lo hi s (omega arith), root-level s (omega arith))
+    pub before-roots : (i : ℕ) → i < pageCount img b → before img b 0 i ≡ pageT img b i
+    unfolding before
+    before-roots i h =
+        ap total (map-same (λ k. length (getD (pageLevels img b k) 0 [])) (pageRoots img b) (numbersFrom 0 i)
+        (all-numbers (λ k. length (getD (pageLevels img b k) 0 []) ≡ pageRoots img b k) 0 i (λ k p q. root-level k (omega arith))))
+        ∙ (unfold upTo in sym (T-counts img a c b lo hi i h))
       where
         root-level : (s : ℕ) → s < pageCount img b → length (getD (pageLevels img b s) 0 []) ≡ pageRoots img b s
         root-level s h = unfold Rattle.format.specs.Writer.rootsIn in page-roots img a c b lo hi s h
 
-    pub before-roots : (i : ℕ) → i < pageCount img b → before img b 0 i ≡ pageT img b i
-    unfolding before
-    before-roots i h = omega (arith, T-from 0 i (omega arith), ap (pageT img b) (zero-add i), c .page b 0 lo hi (omega arith) .counters .0)
-
     -- B the on bits of the fourth levels
-    B-from : (s i : ℕ) → s + i < pageCount img b → pageB img b s + total (map (λ k. onBits (getD (pageLevels img b k) 3 [])) (numbersFrom s i)) ≡ pageB img b (s + i)
-    unfolding numbersFrom total outLinkCount
-    B-from s zero h = omega (arith, ap (pageB img b) (add-zero s))
-    B-from s (suc i) h =
-        let e : s + suc i ≡ suc s + i = omega arith in
-        omega (arith, ap (pageB img b) e, B-from (suc s) i (omega arith), c .page b (suc s) lo hi (omega arith) .counters)
-
     before-links : (i : ℕ) → i < pageCount img b → total (map (λ k. onBits (getD (pageLevels img b k) 3 [])) (numbersFrom 0 i)) ≡ pageB img b i
-    before-links i h = omega (arith, B-from 0 i (omega arith), ap (pageB img b) (zero-add i), c .page b 0 lo hi (omega arith) .counters .1)
+    unfolding upTo outLinkCount
+    before-links i h = sym (B-counts img a c b lo hi i h)
 
     -- and the nodes of a later level are the on bits of the level above
     before-next : (l i : ℕ) → l < 3 → i < pageCount img b → total (map (λ k. onBits (getD (pageLevels img b k) l [])) (numbersFrom 0 i)) ≡ before img b (suc l) i
