@@ -10,7 +10,7 @@ use Rattle.format.specs.Image.{bandLevel, bandLevels, bands, imageLevels
 use Rattle.format.specs.Question.{bandQuestions, countsFit, markRight, firstNo, headRight, headerQuestions, imageQuestions, isPositive, isZero, outLinksDue, outcome, pageNeeded, pageQuestions, settle}
 use Rattle.format.specs.Writer.{bandBytes, bandCounts, bandsIn, bandsOf, cut, header, imageOf, pack, pageBytes, pagesOf, rootsIn, subtrieSizes, subtriesPerPage}
 use Rattle.format.specs.Answer.{check, contains, count, inside, isWithin, memberKeys, rectangleQuestion}
-use Rattle.format.specs.Plates.{Plates, firstPage, onePageHeader, onePageImage}
+use Rattle.format.specs.Plates.{Packings, Plates, firstPage, onePageHeader, onePageImage}
 
 pub plates : Plates
 unfolding flatMap flatten numbersFrom upTo total every consIf select isIn spread keyOf gather slotOf holderOf parents bitOf addToFirst nodesOver levelsOver levelsOf bits onBits below descend firstSubtries laterSubtries nodeCount levelsIn pairsOf byteOf nodeBytes twoBytes numberAt bands keyCount pageCount rootCount pagesBefore pageNumber pageT pageB pagePairs nextT pageRoots pageLevels pageNodes outLinkCount bandLevel bandLevels imageLevels keysOf firstNo isZero isPositive countsFit markRight headerQuestions headRight pageNeeded pageQuestions outLinksDue bandQuestions imageQuestions bandsIn bandsOf rootsIn subtrieSizes pack subtriesPerPage cut pagesOf pageBytes bandBytes bandCounts header imageOf outcome settle check inside contains isWithin memberKeys rectangleQuestion count onePageHeader firstPage onePageImage
@@ -31,3 +31,8 @@ plates =
       plate-11-count = refl;
       plate-12 = record { bytes = refl; accepted = refl; list = refl };
     }
+
+-- the packing rule at its edges, by computation
+pub packings : Packings
+unfolding pack subtriesPerPage
+packings = record { sixty-of-4 = refl; sixteen-of-15 = refl; one-node-over = refl; just-full = refl }

@@ -43,7 +43,12 @@ module _ (img : List ℕ) (a : All Byte img) (c : Checked img) (some : 1 ≤ key
       let d : depth (suc b) 0 ≡ 4 * b = omega arith in
       let r = reached-root img a c some (suc b) (omega arith) (omega arith) j (outLink img b i q) h k m in
       record {
-        j = r .j; in-band = r .in-band; in-page = r .in-page; inner = r .inner; place = r .place; index = r .index;
+        j = r .j;
+        in-band = r .in-band;
+        in-page = r .in-page;
+        inner = r .inner;
+        place = r .place;
+        index = r .index;
         prefix = ap (λ (e : ℕ). getD (prefixesAt img e) (outLink img b i q) 0) d ∙ o .prefix;
       }
 

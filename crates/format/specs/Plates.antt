@@ -1,4 +1,4 @@
--- What the starred sample plates say, of the definitions. The proof is in proofs/Plates.antt.
+-- What the starred sample plates say of the definitions, and the packing rule at its edges. The proofs are in proofs/Plates.antt.
 -- Assumes nothing.
 use mathlib.Core.Path.{_≡_}
 use Prim.Native.Nat.{ℕ, _-_}
@@ -7,7 +7,7 @@ use lib.ListN.{length, replicate}
 use Rattle.format.specs.Seq.{upTo}
 use Rattle.format.specs.Key.{keyOf}
 use Rattle.format.specs.Image.{keysOf}
-use Rattle.format.specs.Writer.{imageOf}
+use Rattle.format.specs.Writer.{imageOf, subtriesPerPage}
 use Rattle.format.specs.Question.{returns}
 use Rattle.format.specs.Answer.{check, count, memberKeys}
 use Rattle.format.specs.declared.Rectangle.{Rectangle}
@@ -49,3 +49,10 @@ pub record Plates : Type 0 where
   pub plate-12 : Image-is (3 ∷ 44 ∷ 128 ∷ 133 ∷ 136 ∷ 160 ∷ 172 ∷ 192 ∷ [])
       (onePageImage 8 (replicate 7 1 ++ 5 ∷ [])
       (replicate 6 (0xAA ∷ []) ++ (0xEF ∷ 0xEA ∷ 0xA8 ∷ []) ∷ (0x9F ∷ 0xA7 ∷ 0xA6 ∷ 0x6A ∷ 0xAA ∷ 0x69 ∷ 0xAA ∷ []) ∷ []))
+
+-- the packing rule at its edges: n subtries of so many nodes each
+pub record Packings : Type 0 where
+  pub sixty-of-4 : subtriesPerPage (replicate 61 4) ≡ 60 ∷ 1 ∷ []
+  pub sixteen-of-15 : subtriesPerPage (replicate 17 15) ≡ 16 ∷ 1 ∷ []
+  pub one-node-over : subtriesPerPage (replicate 15 15 ++ 12 ∷ 4 ∷ []) ≡ 16 ∷ 1 ∷ []
+  pub just-full : subtriesPerPage (replicate 15 15 ++ 11 ∷ 4 ∷ 4 ∷ []) ≡ 17 ∷ 1 ∷ []
