@@ -1,15 +1,30 @@
-// Counts over the nodes of a page: 60 bytes of two-bit nodes, four to a byte, the first in the highest bits.
+// Counts over the nodes of a page. A page's 60 bytes of two-bit nodes are gathered once into words, with the on bits before each word, and every count
+// over the page is then taken from one word.
 ghost use mathlib.Core.Path.{_≡_};
+ghost use mathlib.Core.List.{[], _∷_};
 ghost use Prim.Native.Nat.{_+_, _-_, _*_, _≤_, _<_};
-ghost use lib.ListN.{length, take, drop};
+ghost use lib.ListN.{length, getD};
 ghost use lib.Count.{ones};
-ghost use Rattle.nodes.specs.Nodes.{pairs, onBits, usedIn, usedOf, noneEmpty, allEmpty, halfAt, wordAt};
+ghost use Rattle.nodes.specs.Words.{halfAt, wordAt, wordsOf, countsBefore, onesBefore, nodeIn, usedNodes, noneEmpty};
+
+// A page's nodes, the first in the highest bits: 16 in the low half of word 0, 32 in each of words 1 to 7; word 8 is 0. `before` has the on bits of
+// the words before each.
+pub struct Words {
+    pub word: [u64; 9],
+    pub before: [u16; 9],
+}
 
 // The number of set bits of `w`.
-fn ones_of(w: u64) -> usize
+fn ones_of(w: u64) -> u16
     ensures { λ r. ⌜ (r ≡ ones w) × (r ≤ 64) ⌝ }
 {
-    u64::count_ones(w) as usize
+    u64::count_ones(w) as u16
+}
+
+fn wide(x: u16) -> usize
+    ensures { λ r. ⌜ (r ≡ x) × (r < 65536) ⌝ }
+{
+    x as usize
 }
 
 // Four bytes as one number, the first the highest.
@@ -57,103 +72,90 @@ fn word(s: &[u8], at: usize) -> u64
     )
 }
 
-// The on bits of the first `k` nodes, at most 16, which the first four bytes hold.
-fn head_ones(nodes: &[u8], k: usize) -> usize
-    requires { ⌜ (length (now nodes) ≡ 60) × (k ≤ 16) ⌝ }
-    ensures { λ r. ⌜ (r ≡ onBits (take k (pairs (now (nodes .entry))))) × (r ≤ 64) ⌝ }
+// The set bits of the words before each of eight words and the one after them.
+fn counts_before(a: u64, b: u64, c: u64, d: u64, e: u64, f: u64, g: u64, h: u64) -> [u16; 9]
+    ensures { λ r. ⌜ r ≡ countsBefore 0 (a ∷ b ∷ c ∷ d ∷ e ∷ f ∷ g ∷ h ∷ 0 ∷ []) ⌝ }
 {
-    ones_of(half(nodes, 0) >> (32 - 2 * k))
+    let n1 = ones_of(a);
+    let n2 = n1 + ones_of(b);
+    let n3 = n2 + ones_of(c);
+    let n4 = n3 + ones_of(d);
+    let n5 = n4 + ones_of(e);
+    let n6 = n5 + ones_of(f);
+    let n7 = n6 + ones_of(g);
+    let n8 = n7 + ones_of(h);
+    [0, n1, n2, n3, n4, n5, n6, n7, n8]
 }
 
-// The on bits of the first `k` nodes of word `j` of the seven that follow the first four bytes.
-fn word_ones(nodes: &[u8], j: usize, k: usize) -> usize
-    requires { ⌜ (length (now nodes) ≡ 60) × (j < 7) × (0 < k) × (k ≤ 32) ⌝ }
-    ensures { λ r. ⌜ (r ≡ onBits (take k (drop (16 + 32 * j) (pairs (now (nodes .entry)))))) × (r ≤ 64) ⌝ }
+// The words of the page at `at`.
+pub fn gather(bytes: &[u8], at: usize) -> Words
+    requires { ⌜ at + 64 ≤ length (now bytes) ⌝ }
+    ensures { λ r. ⌜ r ≡ wordsOf (now (bytes .entry)) at ⌝ }
 {
-    ones_of(word(nodes, 4 + 8 * j) >> (64 - 2 * k))
+    let a = half(bytes, at + 4);
+    let b = word(bytes, at + 8);
+    let c = word(bytes, at + 16);
+    let d = word(bytes, at + 24);
+    let e = word(bytes, at + 32);
+    let f = word(bytes, at + 40);
+    let g = word(bytes, at + 48);
+    let h = word(bytes, at + 56);
+    let before = counts_before(a, b, c, d, e, f, g, h);
+    Words {
+        word: [a, b, c, d, e, f, g, h, 0],
+        before,
+    }
 }
 
 // The on bits of the first `n` nodes.
-pub fn on_bits_before(nodes: &[u8], n: usize) -> usize
-    requires { ⌜ (length (now nodes) ≡ 60) × (n ≤ 240) ⌝ }
-    ensures { λ r. ⌜ (r ≡ onBits (take n (pairs (now (nodes .entry))))) × (r ≤ 512) ⌝ }
+pub fn on_bits_before<'a>(word: &'a [u64; 9], before: &'a [u16; 9], n: usize) -> usize
+    requires { ⌜ n ≤ 240 ⌝ }
+    ensures { λ r. ⌜ (r ≡ onesBefore (now (word .entry)) (now (before .entry)) n) × (r < 65600) ⌝ }
 {
-    if n <= 16 {
-        return head_ones(nodes, n);
-    }
-    let mut total = head_ones(nodes, 16);
-    let mut left = n - 16;
+    let place = n + 16;
+    let j = place / 32;
+    let passed = before[j];
+    wide(passed) + wide(ones_of((word[j] >> 1) >> (63 - 2 * (place % 32))))
+}
+
+// The on bits of all nodes.
+pub fn on_bits(before: &[u16; 9]) -> usize
+    ensures { λ r. ⌜ (r ≡ getD (now (before .entry)) 8 0) × (r < 65536) ⌝ }
+{
+    wide(before[8])
+}
+
+// Node `n`: 2 for its first bit, 1 for its second, 3 for both, 0 for neither.
+pub fn node_at(word: &[u64; 9], n: usize) -> u64
+    requires { ⌜ n < 240 ⌝ }
+    ensures { λ r. ⌜ (r ≡ nodeIn (now (word .entry)) n) × (r < 4) ⌝ }
+{
+    let place = n + 16;
+    (word[place / 32] >> (62 - 2 * (place % 32))) % 4
+}
+
+// The low bit of each node of `w` that is not 00.
+fn used_nodes(w: u64) -> u64
+    ensures { λ r. ⌜ r ≡ usedNodes w ⌝ }
+{
+    (w | (w >> 1)) & 0x5555_5555_5555_5555
+}
+
+// Whether none of the first `n` nodes is 00.
+pub fn none_empty(word: &[u64; 9], n: usize) -> bool
+    requires { ⌜ n ≤ 240 ⌝ }
+    ensures { λ r. ⌜ r ≡ noneEmpty (now (word .entry)) n ⌝ }
+{
+    let mut left = n + 16;
     let mut j = 0;
-    while 32 < left {
-        total += word_ones(nodes, j, 32);
+    let mut w = word[0] | 0xffff_ffff_0000_0000;
+    while 32 <= left {
+        if used_nodes(w) != 0x5555_5555_5555_5555 {
+            return false;
+        }
         left -= 32;
         j += 1;
+        w = word[j];
     }
-    total + word_ones(nodes, j, left)
-}
-
-// The on bits of the nodes `from` to `to`, `to` left out.
-pub fn on_bits(nodes: &[u8], from: usize, to: usize) -> usize
-    requires { ⌜ (length (now nodes) ≡ 60) × (from ≤ to) × (to ≤ 240) ⌝ }
-    ensures { λ r. ⌜ (r ≡ onBits (take (to - from) (drop from (pairs (now (nodes .entry)))))) × (r ≤ 512) ⌝ }
-{
-    on_bits_before(nodes, to) - on_bits_before(nodes, from)
-}
-
-// Whether every node from `from` on is 00.
-pub fn all_empty(nodes: &[u8], from: usize) -> bool
-    requires { ⌜ (length (now nodes) ≡ 60) × (from ≤ 240) ⌝ }
-    ensures { λ r. ⌜ r ≡ allEmpty (drop from (pairs (now (nodes .entry)))) ⌝ }
-{
-    on_bits(nodes, from, 240) == 0
-}
-
-// The number of nodes of `w` that are not 00: the low bit of such a node is set, of it or of its high bit.
-fn used_of(w: u64) -> usize
-    ensures { λ r. ⌜ (r ≡ usedOf w) × (r ≤ 64) ⌝ }
-{
-    ones_of((w | (w >> 1)) & 0x5555_5555_5555_5555)
-}
-
-// The nodes that are not 00 among the first `k`, at most 16, which the first four bytes hold.
-fn head_used(nodes: &[u8], k: usize) -> usize
-    requires { ⌜ (length (now nodes) ≡ 60) × (k ≤ 16) ⌝ }
-    ensures { λ r. ⌜ (r ≡ usedIn (take k (pairs (now (nodes .entry))))) × (r ≤ 64) ⌝ }
-{
-    used_of(half(nodes, 0) >> (32 - 2 * k))
-}
-
-// The nodes that are not 00 among the first `k` of word `j` of the seven that follow the first four bytes.
-fn word_used(nodes: &[u8], j: usize, k: usize) -> usize
-    requires { ⌜ (length (now nodes) ≡ 60) × (j < 7) × (0 < k) × (k ≤ 32) ⌝ }
-    ensures { λ r. ⌜ (r ≡ usedIn (take k (drop (16 + 32 * j) (pairs (now (nodes .entry)))))) × (r ≤ 64) ⌝ }
-{
-    used_of(word(nodes, 4 + 8 * j) >> (64 - 2 * k))
-}
-
-// The nodes that are not 00 among the first `n`.
-pub fn used_before(nodes: &[u8], n: usize) -> usize
-    requires { ⌜ (length (now nodes) ≡ 60) × (n ≤ 240) ⌝ }
-    ensures { λ r. ⌜ (r ≡ usedIn (take n (pairs (now (nodes .entry))))) × (r ≤ 512) ⌝ }
-{
-    if n <= 16 {
-        return head_used(nodes, n);
-    }
-    let mut total = head_used(nodes, 16);
-    let mut left = n - 16;
-    let mut j = 0;
-    while 32 < left {
-        total += word_used(nodes, j, 32);
-        left -= 32;
-        j += 1;
-    }
-    total + word_used(nodes, j, left)
-}
-
-// Whether no node of `from` to `to`, `to` left out, is 00.
-pub fn none_empty(nodes: &[u8], from: usize, to: usize) -> bool
-    requires { ⌜ (length (now nodes) ≡ 60) × (from ≤ to) × (to ≤ 240) ⌝ }
-    ensures { λ r. ⌜ r ≡ noneEmpty (take (to - from) (drop from (pairs (now (nodes .entry))))) ⌝ }
-{
-    used_before(nodes, to) - used_before(nodes, from) == to - from
+    used_nodes((w >> 1) >> (63 - 2 * left)) == 0x2aaa_aaaa_aaaa_aaaa >> (63 - 2 * left)
 }

@@ -1,6 +1,5 @@
 -- `nodes::ones_of` meets its contract: a word of 64 bits has at most 64 set. Assumes nothing.
 use native.Mathlib.Omega.{arith}
-use borrow.Author.Needs.{needs}
 use lib.Count.{ones-le}
 use Rattle.nodes.proofs.ones_of.Statement.{statement}
 use Rattle.nodes.proofs.ones_of.Tie as tie
