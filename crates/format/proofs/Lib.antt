@@ -35,6 +35,8 @@ pub mod Exact
 pub mod Sentences
 -- a band's pages from its keys, key by key, as the writer goes
 pub mod Runs
+-- the gate's history
+pub mod Histories
 -- one flipped bit
 pub mod Raised
 pub mod PageFacts

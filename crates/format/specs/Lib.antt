@@ -8,6 +8,7 @@ pub mod Question
 pub mod Writer
 pub mod Answer
 pub mod Scan
+pub mod History
 pub mod Text
 pub mod Exact
 pub mod Flip
