@@ -1,0 +1,64 @@
+// The gate's scan: whether a card opens, and what is recorded.
+ghost use mathlib.Core.Path.{_≡_};
+ghost use mathlib.Core.Bool.{true};
+ghost use Prim.Native.Nat.{_+_, _<_, _≤_};
+ghost use Rattle.format.specs.Question.{settle};
+ghost use Rattle.gate.specs.Gate.{outcomeOf, gateQuestions, gateRecords, timeRight, lockoutOver};
+
+pub enum Scanned {
+    // The rank whose opening was recorded.
+    Opened(u32),
+    // The number of the question that got a no.
+    Refused(u8),
+}
+
+// 25: never opened, or the time is not before the last opening. The sums are wider than 32 bits, so that none wraps.
+fn time_right(last: u32, time: u32) -> bool
+    ensures { λ r. ⌜ r ≡ timeRight last time ⌝ }
+{
+    if last == 0 {
+        return true;
+    }
+    last as u64 <= time as u64 + 1
+}
+
+// 26: never opened, or at least the lockout seconds since.
+fn lockout_over(last: u32, time: u32, lockout: u32) -> bool
+    ensures { λ r. ⌜ r ≡ lockoutOver last time lockout ⌝ }
+{
+    if last == 0 {
+        return true;
+    }
+    last as u64 + lockout as u64 <= time as u64 + 1
+}
+
+// 21 to 26, of an image with `keys` keys and an admission that is listed at `rank`, or not listed; and the opening.
+fn admit(records: &mut [u32], keys: usize, listed: bool, rank: u32, time: u32, lockout: u32) -> Scanned
+    requires { ⌜ (keys < 65536) × (listed ≡ true → rank < keys) ⌝ }
+    ensures { λ r. ⌜ (outcomeOf r ≡ settle (gateQuestions keys (now (records .entry)) listed rank time lockout) rank) × (now (records .exit) ≡ gateRecords (outcomeOf r) keys (now (records .entry)) time) ⌝ }
+{
+    if records.len() != keys + 1 {
+        return Scanned::Refused(21);
+    }
+    if time == 4294967295 {
+        return Scanned::Refused(22);
+    }
+    let openings = records[keys];
+    if openings == 4294967295 {
+        return Scanned::Refused(23);
+    }
+    if !listed {
+        return Scanned::Refused(24);
+    }
+    let place = rank as usize;
+    let last = records[place];
+    if !time_right(last, time) {
+        return Scanned::Refused(25);
+    }
+    if !lockout_over(last, time, lockout) {
+        return Scanned::Refused(26);
+    }
+    records[place] = time + 1;
+    records[keys] = openings + 1;
+    Scanned::Opened(rank)
+}
