@@ -17,7 +17,8 @@ use Rattle.format.proofs.Trie.{Shape, Nodes}
 use Rattle.format.proofs.Checked.{Checked}
 use Rattle.format.proofs.Back.{image-shape, image-32}
 use Rattle.format.proofs.Descent.{bit, childAt, node-at, onBits-suc, length-below, halve}
-use Rattle.format.proofs.Walk.{levelAt, depth, one-root, Reached, reached-node}
+use Rattle.format.proofs.Levels.{levelAt, depth, one-root}
+use Rattle.format.proofs.Walk.{Reached, reached-node}
 
 -- l where the bit b is on, and nothing where it is off
 abbrev pub when : ℕ → List ℕ → List ℕ

@@ -24,6 +24,7 @@ pub mod Forth
 -- finding one's way in an accepted image: down to a key, up from a rank, depth first, and into a rectangle
 pub mod Descent
 pub mod Places
+pub mod Levels
 pub mod Walk
 pub mod Counting
 pub mod Upward

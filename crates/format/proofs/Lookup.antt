@@ -12,7 +12,8 @@ use Rattle.format.specs.Answer.{LookupAnswer, absent, listed, lookupAnsw
 use Rattle.format.proofs.Trie.{Asc}
 use Rattle.format.proofs.Checked.{Checked, cond-yes, cond-no}
 use Rattle.format.proofs.Descent.{bit, isIn-mem, isIn-not, mem-at, rank-at, halve}
-use Rattle.format.proofs.Walk.{prefixesAt, depth, Reached, reached-off, prefixes-asc, prefixes-keys, listed-prefix}
+use Rattle.format.proofs.Levels.{prefixesAt, depth, prefixes-asc, prefixes-keys}
+use Rattle.format.proofs.Walk.{Reached, reached-off, listed-prefix}
 use Rattle.format.proofs.Depth.{no-keys-listed}
 
 -- the bit of a key at level d, from 0

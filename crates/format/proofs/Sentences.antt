@@ -17,7 +17,8 @@ use Rattle.format.proofs.Subtries.{first-shape, length-first, page-root
 use Rattle.format.proofs.Members.{select-asc}
 use Rattle.format.proofs.Checked.{Checked}
 use Rattle.format.proofs.Descent.{rank-at}
-use Rattle.format.proofs.Walk.{Out, Reached, depth, outLink, prefixes-asc, prefixes-keys, prefixesAt, reached-root}
+use Rattle.format.proofs.Walk.{Out, Reached, outLink, reached-root}
+use Rattle.format.proofs.Levels.{depth, prefixes-asc, prefixes-keys, prefixesAt}
 use Rattle.format.proofs.Accepted.{facts}
 
 -- "a root and all below it in its band is a subtrie: 4 to 15 nodes"

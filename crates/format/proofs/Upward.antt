@@ -15,7 +15,8 @@ use Rattle.format.proofs.Read.{page-four}
 use Rattle.format.proofs.Descent.{bit, childAt, onBits-suc}
 use Rattle.format.proofs.Counting.{marks}
 use Rattle.format.proofs.Places.{offset, offset-within}
-use Rattle.format.proofs.Walk.{prefixesAt, depth, before, before-roots, childPlace, Reached, reached-node, reached-place, reached-valid, reached-child, reached-out, outLink, Out, ReachedAt, reached-any}
+use Rattle.format.proofs.Levels.{prefixesAt, depth, before, before-roots, childPlace}
+use Rattle.format.proofs.Walk.{Reached, reached-node, reached-place, reached-valid, reached-child, reached-out, outLink, Out, ReachedAt, reached-any}
 
 -- ---- the bit with a number
 
