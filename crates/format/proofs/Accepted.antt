@@ -17,7 +17,7 @@ use Rattle.format.specs.Answer.{check}
 use Rattle.format.specs.Exact.{Accepted}
 use Rattle.format.proofs.Lists.{all-every, all-map, all-numbers}
 use Rattle.format.proofs.Questions.{none-of-yes}
-use Rattle.format.proofs.Trie.{Keys}
+use Rattle.format.proofs.Shapes.{Keys}
 use Rattle.format.proofs.Members.{ascending-of}
 use Rattle.format.proofs.Bytes.{number-small}
 use Rattle.format.proofs.Checked.{AllYes, Checked, checked}

@@ -17,7 +17,8 @@ use Rattle.format.specs.Image.{bandLevels, bands, imageLevels, keyCount,
 use Rattle.format.specs.Question.{outLinksDue}
 use Rattle.format.specs.Writer.{bandBytes, bandCounts, bandsIn, bandsOf, header, imageOf, pagesOf}
 use Rattle.format.proofs.Lists.{all-numbers, length-numbers, length-flatMap, flatMap-map, numbers-split, total-append}
-use Rattle.format.proofs.Trie.{Shape, lastOn, lastOn-append, shape-append, Keys, descend-keys, levels-back}
+use Rattle.format.proofs.Trie.{Shape, levels-back}
+use Rattle.format.proofs.Shapes.{lastOn, lastOn-append, shape-append, Keys, descend-keys}
 use Rattle.format.proofs.Bytes.{twoBytes-back, zeros-are}
 use Rattle.format.proofs.Checked.{Counts, no-keys, some-keys, Checked, cond-yes, cond-no}
 use Rattle.format.proofs.Read.{band-four, band-roots, band-shape, band-last, band-bytes, band-page-count}

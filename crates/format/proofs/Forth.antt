@@ -12,8 +12,9 @@ use Rattle.format.specs.Page.{Byte}
 use Rattle.format.specs.Image.{bandLevels, bands, imageLevels, keysOf}
 use Rattle.format.specs.Writer.{bandBytes, bandsIn, bandsOf, header, imageOf, pagesOf, rootsIn}
 use Rattle.format.proofs.Lists.{all-numbers, flatMap-same}
-use Rattle.format.proofs.Trie.{Shape, Fits, Asc, lastOn, lastOn-append, shape-left, shape-right, levels-formed, levels-spell, length-levelsOver}
-use Rattle.format.proofs.Packing.{shape-roots, lastOn-four}
+use Rattle.format.proofs.Trie.{Shape, Fits, Asc, levels-spell}
+use Rattle.format.proofs.Shapes.{lastOn, lastOn-append, shape-left, shape-right, levels-formed, length-levelsOver}
+use Rattle.format.proofs.Pages.{shape-roots, lastOn-four}
 use Rattle.format.proofs.Checked.{AllYes, accepted}
 use Rattle.format.proofs.Written.{Top, none, some, Bands, bytesOf, Parts, parts, is-checked, bands-in, all-bytes}
 

@@ -12,7 +12,8 @@ use Rattle.format.specs.Trie.{below, descend, onBits}
 use Rattle.format.specs.Page.{Byte}
 use Rattle.format.specs.Image.{bandLevel, bandLevels, bands, imageLevels, keyCount, keysOf, outLinkCount, pageB, pageCount, pageLevels, pageNodes, pagePairs, pageRoots, pageT, rootCount}
 use Rattle.format.proofs.Lists.{map-same, all-numbers}
-use Rattle.format.proofs.Trie.{Shape, Nodes, Asc, lastOn, shape-left, shape-right, descend-snoc, descend-keys}
+use Rattle.format.proofs.Trie.{Shape, Nodes, Asc, descend-snoc}
+use Rattle.format.proofs.Shapes.{lastOn, shape-left, shape-right, descend-keys}
 use Rattle.format.proofs.Bytes.{levels-join}
 use Rattle.format.proofs.Checked.{Checked, Counts, no-keys, some-keys}
 use Rattle.format.proofs.Read.{page-four, page-shape, page-roots, band-four}

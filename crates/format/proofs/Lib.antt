@@ -8,9 +8,11 @@ pub mod Questions
 pub mod Keys
 -- levels and the keys they spell; ascending lists; levels cut between subtries; subtries packed into pages; pages and their bytes
 pub mod Trie
+pub mod Shapes
 pub mod Members
 pub mod Subtries
 pub mod Packing
+pub mod Pages
 pub mod Bytes
 -- from an accepted image to its keys and back to its bytes
 pub mod Checked
@@ -19,6 +21,7 @@ pub mod Back
 pub mod Counters
 pub mod Accepted
 -- from keys to an image that is accepted and has them
+pub mod WrittenPages
 pub mod Written
 pub mod Forth
 -- finding one's way in an accepted image: down to a key, up from a rank, depth first, and into a rectangle
@@ -35,6 +38,7 @@ pub mod Cells
 pub mod Exact
 pub mod Sentences
 -- a band's pages from its keys, key by key, as the writer goes
+pub mod RunHeads
 pub mod Runs
 -- the gate's history
 pub mod Histories

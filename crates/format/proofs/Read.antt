@@ -17,8 +17,9 @@ use Rattle.format.specs.Image.{bandLevel, bandLevels, bands, nextT, outL
 use Rattle.format.specs.Question.{outLinksDue}
 use Rattle.format.specs.Writer.{bandBytes, pageBytes, pagesOf, rootsIn}
 use Rattle.format.proofs.Lists.{all-take, all-drop, total-append, numbers-split, length-upTo, flatMap-map}
-use Rattle.format.proofs.Trie.{Shape, lastOn}
-use Rattle.format.proofs.Packing.{Page, Paged, Follows, glue, glue-four, glue-roots, glue-shape, glue-level, four-levels, glue-links, lastOn-four, shape-roots, pages-only}
+use Rattle.format.proofs.Trie.{Shape}
+use Rattle.format.proofs.Shapes.{lastOn}
+use Rattle.format.proofs.Pages.{Page, Paged, Follows, glue, glue-four, glue-roots, glue-shape, glue-level, four-levels, glue-links, lastOn-four, shape-roots, pages-only}
 use Rattle.format.proofs.Bytes.{length-pairs, pairs-small, length-levelsIn, levels-shape, page-back, length-block}
 use Rattle.format.proofs.Checked.{Counts, no-keys, some-keys, Checked, cond-yes, cond-no}
 

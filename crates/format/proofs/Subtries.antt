@@ -10,7 +10,8 @@ use Rattle.format.specs.Seq.{All, total}
 use Rattle.format.specs.Trie.{onBits}
 use Rattle.format.specs.Page.{firstSubtries, laterSubtries, nodeCount}
 use Rattle.format.specs.Writer.{subtrieSizes}
-use Rattle.format.proofs.Trie.{Shape, Nodes, onBits-bounds}
+use Rattle.format.proofs.Trie.{Shape, Nodes}
+use Rattle.format.proofs.Shapes.{onBits-bounds}
 
 pub onBits-append : (a b : List ℕ) → onBits (a ++ b) ≡ onBits a + onBits b
 unfolding onBits

@@ -33,7 +33,14 @@ fn lockout_over(last: u32, time: u32, lockout: u32) -> bool
 }
 
 // 21 to 26, of an image with `keys` keys and an admission that is listed at `rank`, or not listed; and the opening.
-fn admit(records: &mut [u32], keys: usize, listed: bool, rank: u32, time: u32, lockout: u32) -> Scanned
+fn admit(
+    records: &mut [u32],
+    keys: usize,
+    listed: bool,
+    rank: u32,
+    time: u32,
+    lockout: u32,
+) -> Scanned
     requires { ⌜ (keys < 65536) × (listed ≡ true → rank < keys) ⌝ }
     ensures { λ r. ⌜ (outcomeOf r ≡ settle (gateQuestions keys (now (records .entry)) listed rank time lockout) rank) × (now (records .exit) ≡ gateRecords (outcomeOf r) keys (now (records .entry)) time) ⌝ }
 {

@@ -33,8 +33,7 @@ slice-read-last c = let s = c .before .before .before .before .before .before .b
 returns-5 : tie.Need-returns-5
 unfolding gateRecords
 returns-5 c =
-    let s = c .before .before .before .before .before .before .before .before .before in
-    (
+    let s = c .before .before .before .before .before .before .before .before .before in (
       no-25 _ _ _ _ _ _ (c .before .before .before .before .before .before .before .if1 .left) (omega arith) (omega (arith, c .before .before .before .before .before .slice-known2 .given (s .args .keys))) (not-false _ (c .before .before .before .if4 .left))
           (sym (c .before .time-right .ensures) ∙ not-true _ (c .if5 .taken)),
       refl,
@@ -43,8 +42,7 @@ returns-5 c =
 returns-6 : tie.Need-returns-6
 unfolding gateRecords
 returns-6 c =
-    let s = c .before .before .before .before .before .before .before .before .before .before .before in
-    (
+    let s = c .before .before .before .before .before .before .before .before .before .before .before in (
       no-26 _ _ _ _ _ _ (c .before .before .before .before .before .before .before .before .before .if1 .left) (omega arith) (omega (arith, c .before .before .before .before .before .before .before .slice-known2 .given (s .args .keys))) (not-false _ (c .before .before .before .before .before .if4 .left))
           (sym (c .before .before .before .time-right .ensures) ∙ not-false _ (c .before .before .if5 .left)) (sym (c .before .lockout-over .ensures) ∙ not-true _ (c .if6 .taken)),
       refl,
@@ -62,8 +60,7 @@ slice-write-records-2 c = simp length-set (omega arith)
 returns-7 : tie.Need-returns-7
 unfolding gateRecords
 returns-7 c =
-    let s = c .before .before .before .before .before .before .before .before .before .before .before in
-    (
+    let s = c .before .before .before .before .before .before .before .before .before .before .before in (
       all-yes _ _ _ _ _ _ (c .before .before .before .before .before .before .before .before .before .if1 .left) (omega arith) (omega (arith, c .before .before .before .before .before .before .before .slice-known2 .given (s .args .keys))) (not-false _ (c .before .before .before .before .before .if4 .left))
           (sym (c .before .before .before .time-right .ensures) ∙ not-false _ (c .before .before .if5 .left)) (sym (c .before .lockout-over .ensures) ∙ not-false _ (c .if6 .left)),
       refl,
