@@ -1,0 +1,115 @@
+/*
+ * lpt.h: the verified admission image, for C.
+ *
+ * Every function returns an answer of 0 or more, or -n where question n got a no (LPT_NO_* below).
+ * On a refusal no lent buffer changes. On an answer only the places named here change.
+ *
+ * Buffers belong to the caller. Nothing is kept between calls, nothing is allocated, no global state is
+ * used: calls on different buffers may run at the same time. Pointers are not null, also where a length
+ * is 0, and a buffer that is written must not overlap one that is read.
+ *
+ * Every function that takes an image checks all of it first; there is no need to call lpt_check before.
+ * An image of 4,096 admissions has at most 24,640 bytes. lpt_write uses some 17 KiB of stack for the keys,
+ * the other functions a few KiB at most.
+ */
+#ifndef LPT_H
+#define LPT_H
+
+#include <stddef.h>
+#include <stdint.h>
+
+#ifdef __cplusplus
+extern "C" {
+#endif
+
+/* An admission: a holder and a half-day slot. */
+typedef struct {
+    uint16_t holder;
+    uint16_t slot;
+} lpt_admission;
+
+/* The most admissions that an image can hold. */
+#define LPT_MOST_ADMISSIONS 4096
+
+/* Refusals of an image, by every function that takes one. */
+#define LPT_NO_HEADER 1       /* fewer than 64 bytes */
+#define LPT_NO_MARK 2         /* the first bytes are not 4C 50 54 */
+#define LPT_NO_VERSION 3      /* the version is not 1 */
+#define LPT_NO_KEY_COUNT 4    /* more than 4,096 keys */
+#define LPT_NO_ZERO_BYTES 5   /* a byte that must be zero is not */
+#define LPT_NO_LENGTH 6       /* the length is not 64 x (1 + all page counts) */
+#define LPT_NO_BAND_COUNTS 7  /* page and root counts do not fit the key count */
+#define LPT_NO_COUNTERS 8     /* a page's T or B is wrong */
+#define LPT_NO_ROOTS 9        /* a page has not 1 to 60 roots */
+#define LPT_NO_NODES 10       /* a page calls for more than 240 nodes, or a node is 00 */
+#define LPT_NO_PADDING 11     /* a pair after a page's last node is not 00 */
+#define LPT_NO_PACKING 12     /* a page was started before it had to be */
+#define LPT_NO_LINKS 13       /* a band's out-links do not fit the band below, or the key count */
+
+/* Refusals of a list, by lpt_write. Number 16 never comes up. */
+#define LPT_NO_MORE 14        /* more than 4,096 admissions */
+#define LPT_NO_ORDER 15       /* the keys do not strictly ascend */
+#define LPT_NO_PAGES 16       /* a band's page count does not fit 16 bits */
+#define LPT_NO_ROOM 17        /* the output buffer is too short for the image */
+
+/* Refusals of a rectangle, by lpt_count and lpt_list. */
+#define LPT_NO_RECTANGLE 18   /* a low end is above its high end */
+#define LPT_NO_PLACE 19       /* lpt_list: the key buffer has fewer places than there are members */
+
+/* Refusal of a rank, by lpt_find. */
+#define LPT_NO_RANK 20        /* the rank is not below the key count */
+
+/* Refusals of a scan, by lpt_scan. */
+#define LPT_NO_RECORDS 21     /* the record buffer's length is not key count + 1 */
+#define LPT_NO_TIME 22        /* the time is 4,294,967,295 */
+#define LPT_NO_OPENINGS 23    /* the openings count is 4,294,967,295 */
+#define LPT_NO_ADMISSION 24   /* the admission is not listed */
+#define LPT_NO_EARLIER 25     /* the time is before the last opening */
+#define LPT_NO_LOCKOUT 26     /* the lockout is not over */
+
+/*
+ * Writes the image of a list. The admissions must be in strictly ascending order of their keys (lpt.h has
+ * no sorting: docs/FORMAT.md says how a key is made). Returns the image's length and fills just that many
+ * first bytes of out. Refuses with 14 to 17.
+ */
+int64_t lpt_write(const lpt_admission *list, size_t n, uint8_t *out, size_t out_len);
+
+/* Checks an image. Returns its key count. Refuses with 1 to 13. */
+int64_t lpt_check(const uint8_t *img, size_t len);
+
+/*
+ * Looks an admission up. Returns 1 and fills out[0] with its rank and out[1] to out[8] with the numbers of the
+ * eight pages on its path, or returns 0 where it is not listed and leaves out as it was. Refuses with 1 to 13.
+ */
+int64_t lpt_lookup(const uint8_t *img, size_t len, uint16_t holder, uint16_t slot, uint32_t out[9]);
+
+/*
+ * Counts the admissions with holder h0 to h1 and slot s0 to s1, ends included. Returns their number.
+ * Refuses with 1 to 13, 18.
+ */
+int64_t lpt_count(const uint8_t *img, size_t len, uint16_t h0, uint16_t h1, uint16_t s0, uint16_t s1);
+
+/*
+ * Lists them. Returns their number and fills just that many first places of keys with their keys, ascending.
+ * Refuses with 1 to 13, 18, 19.
+ */
+int64_t lpt_list(const uint8_t *img, size_t len, uint16_t h0, uint16_t h1, uint16_t s0, uint16_t s1,
+                 uint32_t *keys, size_t places);
+
+/* Finds the admission of a rank. Returns holder x 65,536 + slot. Refuses with 1 to 13, 20. */
+int64_t lpt_find(const uint8_t *img, size_t len, uint32_t rank);
+
+/*
+ * Scans a card. rec has key count + 1 elements, zeros for a new gate: element r is 0 if the admission of rank r
+ * never opened, else the time of its last opening + 1; the last element counts openings. An opening returns the
+ * rank, writes time + 1 there and adds one to the last element. Refuses with 1 to 13, 21 to 26, and then no
+ * element changes.
+ */
+int64_t lpt_scan(const uint8_t *img, size_t len, uint32_t *rec, size_t rec_len,
+                 uint16_t holder, uint16_t slot, uint32_t time, uint32_t lockout);
+
+#ifdef __cplusplus
+}
+#endif
+
+#endif
