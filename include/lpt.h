@@ -9,8 +9,7 @@
  * is 0, and a buffer that is written must not overlap one that is read.
  *
  * Every function that takes an image checks all of it first; there is no need to call lpt_check before.
- * An image of 4,096 admissions has at most 24,640 bytes. lpt_write uses some 17 KiB of stack for the keys,
- * the other functions a few KiB at most.
+ * docs/PERFORMANCE.md has the stack that each function uses.
  */
 #ifndef LPT_H
 #define LPT_H
