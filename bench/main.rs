@@ -1,0 +1,343 @@
+//! Times every job of the verified library (target/staticlib/libcapi.a) beside a plain hand-written implementation of the same
+//! jobs (reference.rs) and beside a sorted array, on three lists of 4,096 admissions. Before anything is timed, the answers and
+//! buffers of both implementations are compared on many sound and damaged images.
+use std::collections::BTreeSet;
+use std::fmt::Write as _;
+use std::hint::black_box as bb;
+
+use reference::{unweave, weave, Admission, Rect};
+
+/// One implementation of the jobs; an answer -n is question n's no.
+struct Jobs {
+    name: &'static str,
+    write: fn(&[Admission], &mut [u8]) -> i64,
+    check: fn(&[u8]) -> i64,
+    lookup: fn(&[u8], u16, u16, &mut [u32; 9]) -> i64,
+    count: fn(&[u8], Rect) -> i64,
+    list: fn(&[u8], Rect, &mut [u32]) -> i64,
+    find: fn(&[u8], u32) -> i64,
+    scan: fn(&[u8], &mut [u32], u16, u16, u32, u32) -> i64,
+}
+
+fn answer<T>(r: Result<T, reference::No>, f: impl Fn(T) -> i64) -> i64 {
+    match r {
+        Ok(x) => f(x),
+        Err(reference::No(n)) => -(n as i64),
+    }
+}
+
+fn hand_written() -> Jobs {
+    Jobs {
+        name: "hand-written",
+        write: |l, o| answer(reference::write(l, o), |x| x as i64),
+        check: |i| answer(reference::check(i), |x| x as i64),
+        lookup: |i, h, s, o| match reference::lookup(i, h, s) {
+            Ok(Some(f)) => {
+                o[0] = f.rank;
+                o[1..].copy_from_slice(&f.pages);
+                1
+            }
+            Ok(None) => 0,
+            Err(reference::No(n)) => -(n as i64),
+        },
+        count: |i, r| answer(reference::count(i, r), |x| x as i64),
+        list: |i, r, k| answer(reference::list(i, r, k), |x| x as i64),
+        find: |i, r| answer(reference::find_by_rank(i, r), |(h, s)| (h as i64) << 16 | s as i64),
+        scan: |i, rec, h, s, t, l| answer(reference::scan(i, rec, h, s, t, l), |x| x as i64),
+    }
+}
+
+extern "C" {
+    fn lpt_write(list: *const Admission, n: usize, out: *mut u8, out_len: usize) -> i64;
+    fn lpt_check(img: *const u8, len: usize) -> i64;
+    fn lpt_lookup(img: *const u8, len: usize, holder: u16, slot: u16, out: *mut u32) -> i64;
+    fn lpt_count(img: *const u8, len: usize, h0: u16, h1: u16, s0: u16, s1: u16) -> i64;
+    fn lpt_list(img: *const u8, len: usize, h0: u16, h1: u16, s0: u16, s1: u16, keys: *mut u32, places: usize) -> i64;
+    fn lpt_find(img: *const u8, len: usize, rank: u32) -> i64;
+    fn lpt_scan(img: *const u8, len: usize, rec: *mut u32, rec_len: usize, holder: u16, slot: u16, time: u32, lockout: u32) -> i64;
+}
+
+fn verified() -> Jobs {
+    Jobs {
+        name: "verified",
+        write: |l, o| unsafe { lpt_write(l.as_ptr(), l.len(), o.as_mut_ptr(), o.len()) },
+        check: |i| unsafe { lpt_check(i.as_ptr(), i.len()) },
+        lookup: |i, h, s, o| unsafe { lpt_lookup(i.as_ptr(), i.len(), h, s, o.as_mut_ptr()) },
+        count: |i, q| unsafe { lpt_count(i.as_ptr(), i.len(), q.h0, q.h1, q.s0, q.s1) },
+        list: |i, q, k| unsafe { lpt_list(i.as_ptr(), i.len(), q.h0, q.h1, q.s0, q.s1, k.as_mut_ptr(), k.len()) },
+        find: |i, r| unsafe { lpt_find(i.as_ptr(), i.len(), r) },
+        scan: |i, rec, h, s, t, l| unsafe { lpt_scan(i.as_ptr(), i.len(), rec.as_mut_ptr(), rec.len(), h, s, t, l) },
+    }
+}
+
+// ---- lists
+
+struct Rng(u64);
+
+impl Rng {
+    fn next(&mut self) -> u64 {
+        self.0 ^= self.0 << 13;
+        self.0 ^= self.0 >> 7;
+        self.0 ^= self.0 << 17;
+        self.0.wrapping_mul(0x2545_f491_4f6c_dd1d) >> 16
+    }
+
+    fn below(&mut self, n: u64) -> u64 {
+        self.next() % n
+    }
+}
+
+const N: usize = 4096;
+
+struct Data {
+    name: &'static str,
+    keys: Vec<u32>,
+    list: Vec<Admission>,
+    img: Vec<u8>,
+    hits: Vec<u32>,
+    misses: Vec<u32>,
+    shapes: Vec<(&'static str, Vec<Rect>)>,
+}
+
+fn data(name: &'static str, r: &mut Rng) -> Data {
+    let mut set = BTreeSet::new();
+    match name {
+        "random" => {
+            while set.len() < N {
+                set.insert(r.next() as u32);
+            }
+        }
+        // passes of 1 to 28 half-days in a season of 300, card numbers over the whole range
+        "clustered" => {
+            while set.len() < N {
+                let h = r.next() as u16;
+                let (a, len) = (r.below(300), 1 + r.below(28));
+                for s in a..(a + len).min(300) {
+                    if set.len() < N {
+                        set.insert(weave(h, s as u16));
+                    }
+                }
+            }
+        }
+        _ => set.extend(0..N as u32),
+    }
+    let keys: Vec<u32> = set.iter().copied().collect();
+    let list: Vec<Admission> = keys.iter().map(|&k| { let (holder, slot) = unweave(k); Admission { holder, slot } }).collect();
+    let mut img = vec![0u8; 32768];
+    let n = reference::write(&list, &mut img).unwrap();
+    img.truncate(n);
+    let pick = |r: &mut Rng| list[r.below(N as u64) as usize];
+    let hits = (0..1024).map(|_| keys[r.below(N as u64) as usize]).collect();
+    let mut misses = vec![];
+    while misses.len() < 1024 {
+        let k = match name {
+            "random" => r.next() as u32,
+            "clustered" => weave(pick(r).holder, r.below(300) as u16),
+            _ => weave(64 + r.below(64) as u16, r.below(64) as u16),
+        };
+        if !set.contains(&k) {
+            misses.push(k);
+        }
+    }
+    let mut shapes: Vec<(&'static str, Vec<Rect>)> = vec![("one slot", vec![]), ("one holder", vec![]), ("block of 10 %", vec![])];
+    let (dh, ds) = match name { "random" => (3277, 3277), "clustered" => (3277, 15), _ => (10, 10) };
+    for _ in 0..64 {
+        let a = pick(r);
+        shapes[0].1.push(Rect { h0: 0, h1: 65535, s0: a.slot, s1: a.slot });
+        shapes[1].1.push(Rect { h0: a.holder, h1: a.holder, s0: 0, s1: 65535 });
+        shapes[2].1.push(Rect {
+            h0: a.holder.saturating_sub(dh), h1: a.holder.saturating_add(dh),
+            s0: a.slot.saturating_sub(ds), s1: a.slot.saturating_add(ds),
+        });
+    }
+    Data { name, keys, list, img, hits, misses, shapes }
+}
+
+// ---- a sorted array, for scale: it checks nothing
+
+fn in_rect(keys: &[u32], q: Rect, mut each: impl FnMut(u32)) {
+    const H: u32 = 0xaaaa_aaaa;
+    const S: u32 = 0x5555_5555;
+    let (lo, hi) = (weave(q.h0, q.s0), weave(q.h1, q.s1));
+    let first = keys.partition_point(|&k| k < lo);
+    for &k in keys[first..].iter().take_while(|&&k| k <= hi) {
+        if (k & H >= lo & H) & (k & H <= hi & H) & (k & S >= lo & S) & (k & S <= hi & S) {
+            each(k);
+        }
+    }
+}
+
+// ---- answers first
+
+/// Both give the same answers and leave the same buffers, on sound and damaged images.
+fn compare(ds: &[Data], a: &Jobs, b: &Jobs) -> usize {
+    let mut r = Rng(99);
+    let mut n = 0;
+    for d in ds {
+        for round in 0..400 {
+            let step = 1 + r.below(if round < 20 { 3 } else { 400 }) as usize;
+            let list: Vec<Admission> = d.list.iter().copied().skip(r.below(50) as usize).step_by(step).collect();
+            let (mut oa, mut ob) = (vec![7u8; 32768], vec![7u8; 32768]);
+            let short = if round % 9 == 0 { r.below(3000) as usize } else { 32768 };
+            let (x, y) = ((a.write)(&list, &mut oa[..short]), (b.write)(&list, &mut ob[..short]));
+            assert!(x == y && oa == ob, "write {x} {y}");
+            n += 1;
+            if x < 0 {
+                continue;
+            }
+            let mut img = oa[..x as usize].to_vec();
+            if round % 3 != 0 {
+                for _ in 0..1 + r.below(2) {
+                    let at = 64 * r.below(x as u64 / 64) as usize + r.below(if r.0 % 2 == 0 { 4 } else { 64 }) as usize;
+                    match r.below(3) {
+                        0 => img[at] ^= 1 << r.below(8),
+                        1 => img[at] = img[at].wrapping_add(1),
+                        _ => img[at] = r.next() as u8,
+                    }
+                }
+            }
+            assert_eq!((a.check)(&img), (b.check)(&img), "check");
+            n += 1;
+            for i in 0..12u32 {
+                let k = if i % 2 == 0 { list[r.below(list.len() as u64) as usize] } else { let (holder, slot) = unweave(d.misses[r.below(1024) as usize]); Admission { holder, slot } };
+                let (mut p, mut q) = ([9u32; 9], [9u32; 9]);
+                let (x, y) = ((a.lookup)(&img, k.holder, k.slot, &mut p), (b.lookup)(&img, k.holder, k.slot, &mut q));
+                assert!((x, p) == (y, q), "lookup {x} {y}");
+                let rank = r.below(list.len() as u64 + 2) as u32;
+                assert_eq!((a.find)(&img, rank), (b.find)(&img, rank), "find");
+                let mut q = d.shapes[i as usize % 3].1[r.below(64) as usize];
+                if i == 11 {
+                    std::mem::swap(&mut q.h0, &mut q.h1);
+                }
+                let c = (a.count)(&img, q);
+                assert_eq!(c, (b.count)(&img, q), "count");
+                let room = if i % 4 == 0 { (c.max(1) - 1) as usize } else { c.max(0) as usize + 3 };
+                let (mut u, mut v) = (vec![5u32; room], vec![5u32; room]);
+                let (x, y) = ((a.list)(&img, q, &mut u), (b.list)(&img, q, &mut v));
+                assert!(x == y && u == v, "list {x} {y}");
+                let wrong = (r.below(10) == 0) as usize;
+                let mut u: Vec<u32> = (0..list.len() + 1 + wrong).map(|_| if r.below(2) == 0 { 0 } else { r.below(2000) as u32 }).collect();
+                let mut v = u.clone();
+                let (t, l) = (r.below(2000) as u32, r.below(900) as u32);
+                let (x, y) = ((a.scan)(&img, &mut u, k.holder, k.slot, t, l), (b.scan)(&img, &mut v, k.holder, k.slot, t, l));
+                assert!(x == y && u == v, "scan {x} {y}");
+                n += 5;
+            }
+        }
+    }
+    n
+}
+
+// ---- times
+
+/// Processor time of this thread, in ns.
+fn now() -> u64 {
+    extern "C" {
+        fn clock_gettime(id: i32, ts: *mut [i64; 2]) -> i32;
+    }
+    let mut ts = [0i64; 2];
+    unsafe { clock_gettime(3, &mut ts) };
+    ts[0] as u64 * 1_000_000_000 + ts[1] as u64
+}
+
+struct Case {
+    by: &'static str,
+    per: f64,
+    f: Box<dyn FnMut() -> u64>,
+    each: Vec<f64>,
+}
+
+struct Row {
+    op: String,
+    cases: Vec<Case>,
+}
+
+fn case(by: &'static str, per: usize, f: impl FnMut() -> u64 + 'static) -> Case {
+    Case { by, per: per as f64, f: Box::new(f), each: vec![] }
+}
+
+fn rows(d: &'static Data, both: &[Jobs]) -> Vec<Row> {
+    let mut rows: Vec<Row> = vec![];
+    let img = &d.img[..];
+    let mut add = |op: &str, mk: &dyn Fn(&Jobs) -> Case, sorted: Option<Case>| {
+        let mut cases: Vec<Case> = both.iter().map(|j| mk(j)).collect();
+        cases.extend(sorted);
+        rows.push(Row { op: op.to_string(), cases });
+    };
+    add("write", &|j| { let (f, mut o) = (j.write, vec![0u8; 32768]); case(j.name, 1, move || f(bb(&d.list), &mut o) as u64) }, None);
+    add("check", &|j| { let f = j.check; case(j.name, 1, move || f(bb(img)) as u64) },
+        Some(case("sorted array", 1, move || bb(&d.keys).windows(2).all(|w| w[0] < w[1]) as u64)));
+    for (op, qs) in [("lookup, listed", &d.hits), ("lookup, absent", &d.misses)] {
+        add(op, &|j| { let f = j.lookup; case(j.name, 32, move || { let mut o = [0; 9];
+            qs[..32].iter().map(|&k| { let (h, s) = unweave(k); f(bb(img), h, s, &mut o) as u64 + o[0] as u64 }).sum() }) },
+            Some(case("sorted array", 1024, move || qs.iter().map(|k| bb(&d.keys).binary_search(k).is_ok() as u64).sum())));
+    }
+    add("find by rank", &|j| { let f = j.find; case(j.name, 32, move || (0..32).map(|k| f(bb(img), k * 127) as u64).sum()) },
+        Some(case("sorted array", 1024, move || (0..1024).map(|k| bb(&d.keys)[k * 3] as u64).sum())));
+    for (name, qs) in &d.shapes {
+        add(&format!("count, {name}"), &|j| { let f = j.count; case(j.name, 32, move || qs[..32].iter().map(|&q| f(bb(img), q) as u64).sum()) },
+            Some(case("sorted array", 32, move || qs[..32].iter().map(|&q| { let mut n = 0; in_rect(bb(&d.keys), q, |_| n += 1); n }).sum())));
+        add(&format!("list, {name}"), &|j| { let (f, mut o) = (j.list, vec![0u32; N]); case(j.name, 32, move || qs[..32].iter().map(|&q| f(bb(img), q, &mut o) as u64).sum()) },
+            Some(case("sorted array", 32, { let mut o = vec![0u32; N]; move || qs[..32].iter().map(|&q| { let mut n = 0; in_rect(bb(&d.keys), q, |k| { o[n] = k; n += 1; }); n as u64 }).sum() })));
+    }
+    let whole = Rect { h0: 0, h1: 65535, s0: 0, s1: 65535 };
+    add("list, whole square", &|j| { let (f, mut o) = (j.list, vec![0u32; N]); case(j.name, 1, move || f(bb(img), whole, &mut o) as u64) },
+        Some(case("sorted array", 1, { let mut o = vec![0u32; N]; move || { o.copy_from_slice(bb(&d.keys)); bb(&o)[7] as u64 } })));
+    add("scan that opens", &|j| { let (f, mut rec, mut t) = (j.scan, vec![0u32; N + 1], 0u32);
+        case(j.name, 32, move || { t += 1; rec[N] = 0; d.hits[..32].iter().map(|&k| { let (h, s) = unweave(k); f(bb(img), &mut rec, h, s, t, 0) as u64 }).sum() }) }, None);
+    rows
+}
+
+fn median(v: &[f64]) -> f64 {
+    let mut v = v.to_vec();
+    v.sort_by(f64::total_cmp);
+    v[v.len() / 2]
+}
+
+fn num(x: f64) -> String {
+    if x < 10.0 { format!("{x:.2}") } else if x < 100.0 { format!("{x:.1}") } else { format!("{x:.0}") }
+}
+
+fn main() {
+    let rounds: usize = std::env::var("ROUNDS").ok().and_then(|s| s.parse().ok()).unwrap_or(41);
+    let both = [hand_written(), verified()];
+    let mut r = Rng(0x5eed);
+    let ds: &'static [Data] = Vec::leak(["random", "clustered", "dense"].iter().map(|n| data(n, &mut r)).collect());
+    println!("{} answers and buffers compared, all equal", compare(ds, &both[0], &both[1]));
+    for d in ds {
+        let mut rows = rows(d, &both);
+        let mut turns: Vec<Vec<usize>> = vec![];
+        for row in rows.iter_mut() {
+            turns.push(row.cases.iter_mut().map(|c| {
+                bb((c.f)());
+                let t = now();
+                bb((c.f)());
+                (200_000.0 / ((now() - t) as f64).max(20.0)).ceil() as usize
+            }).collect());
+        }
+        // every round times every case once, so that a busy neighbour slows both sides of a ratio
+        for _ in 0..rounds {
+            for (row, turns) in rows.iter_mut().zip(&turns) {
+                for (c, &n) in row.cases.iter_mut().zip(turns) {
+                    bb((c.f)());
+                    let t = now();
+                    for _ in 0..n {
+                        bb((c.f)());
+                    }
+                    c.each.push((now() - t) as f64 / (n as f64 * c.per));
+                }
+            }
+        }
+        println!("\n{}: {} admissions in {} bytes ({} pages); ns for one job, and the ratio to hand-written (median of {} rounds)", d.name, N, d.img.len(), d.img.len() / 64 - 1, rounds);
+        println!("{:<24}{:>14}{:>14}{:>8}{:>16}", "", "hand-written", "verified", "ratio", "sorted array");
+        for row in &rows {
+            let ratios: Vec<f64> = row.cases[1].each.iter().zip(&row.cases[0].each).map(|(x, y)| x / y).collect();
+            let mut line = format!("{:<24}{:>14}{:>14}{:>8.2}", row.op, num(median(&row.cases[0].each)), num(median(&row.cases[1].each)), median(&ratios));
+            if let Some(c) = row.cases.get(2) {
+                write!(line, "{:>16}", num(median(&c.each))).unwrap();
+            }
+            println!("{line}");
+            assert!(row.cases[0].by == "hand-written" && row.cases[1].by == "verified");
+        }
+    }
+}

@@ -1,0 +1,88 @@
+/*
+ * A morning at one lift: build an image, check it, list a rectangle of it, and scan cards.
+ * Built and run by examples/run.
+ */
+#include <stdint.h>
+#include <stdio.h>
+#include <stdlib.h>
+#include <string.h>
+
+#include "lpt.h"
+
+#define HOLDERS 40
+#define MORNING 8
+
+/* The key of an admission: holder and slot bit by bit, the holder's first. */
+static uint32_t key_of(lpt_admission a)
+{
+    uint32_t key = 0;
+    for (int bit = 15; bit >= 0; bit--)
+        key = key << 2 | (uint32_t)(a.holder >> bit & 1) << 1 | (uint32_t)(a.slot >> bit & 1);
+    return key;
+}
+
+static int by_key(const void *a, const void *b)
+{
+    uint32_t x = key_of(*(const lpt_admission *)a), y = key_of(*(const lpt_admission *)b);
+    return (x > y) - (x < y);
+}
+
+static void say(const char *what, int64_t answer)
+{
+    if (answer < 0)
+        printf("%s: refused %lld\n", what, (long long)-answer);
+    else
+        printf("%s: %lld\n", what, (long long)answer);
+}
+
+int main(void)
+{
+    /* Every holder has two mornings and the afternoon between them. */
+    static lpt_admission list[3 * HOLDERS];
+    size_t n = 0;
+    for (uint16_t h = 0; h < HOLDERS; h++)
+        for (uint16_t s = 0; s < 3; s++)
+            list[n++] = (lpt_admission){ (uint16_t)(1000 + 7 * h), (uint16_t)(MORNING + s) };
+    qsort(list, n, sizeof list[0], by_key);
+
+    static uint8_t image[24640];
+    int64_t size = lpt_write(list, n, image, sizeof image);
+    say("bytes written", size);
+    if (size < 0)
+        return 1;
+    say("admissions", lpt_check(image, (size_t)size));
+
+    /* One flipped bit is refused, always. */
+    image[200] ^= 4;
+    say("with a flipped bit", lpt_check(image, (size_t)size));
+    image[200] ^= 4;
+
+    /* Who may come this morning, of the first five holders? */
+    static uint32_t keys[3 * HOLDERS];
+    int64_t members = lpt_list(image, (size_t)size, 1000, 1028, MORNING, MORNING, keys, sizeof keys / sizeof keys[0]);
+    say("members of the rectangle", members);
+    say("counted", lpt_count(image, (size_t)size, 1000, 1028, MORNING, MORNING));
+    for (int64_t i = 0; i < members; i++)
+        printf("  key %lu\n", (unsigned long)keys[i]);
+
+    /* Scans, with a lockout of ten minutes. */
+    static uint32_t records[3 * HOLDERS + 1];
+    size_t places = n + 1;
+    say("holder 1007 at 1000", lpt_scan(image, (size_t)size, records, places, 1007, MORNING, 1000, 600));
+    say("again at 1599", lpt_scan(image, (size_t)size, records, places, 1007, MORNING, 1599, 600));
+    say("again at 1600", lpt_scan(image, (size_t)size, records, places, 1007, MORNING, 1600, 600));
+    say("at 900, before its last opening", lpt_scan(image, (size_t)size, records, places, 1007, MORNING, 900, 600));
+    say("holder 1008, who has no admission", lpt_scan(image, (size_t)size, records, places, 1008, MORNING, 1600, 600));
+    say("openings", records[n]);
+
+    uint32_t found[9];
+    if (lpt_lookup(image, (size_t)size, 1007, MORNING, found) == 1) {
+        printf("rank %lu on pages", (unsigned long)found[0]);
+        for (int i = 1; i <= 8; i++)
+            printf(" %lu", (unsigned long)found[i]);
+        printf("\n");
+        int64_t back = lpt_find(image, (size_t)size, found[0]);
+        printf("found by rank: holder %lld, slot %lld\n", (long long)(back / 65536), (long long)(back % 65536));
+    }
+    return 0;
+}
