@@ -1,0 +1,253 @@
+-- A page's levels from counts of on bits before places, step by step as the code takes them: questions 10 and 11, and the page's counts. Assumes nothing.
+use mathlib.Core.Path.{_≡_, sym, ap, ap₂, _∙_}
+use mathlib.Core.Bool.{Bool, true, false, _&&_}
+use mathlib.Core.List.{List, [], _∷_}
+use mathlib.Core.Option.{none, some}
+use Prim.Native.Nat.{ℕ, zero, suc, _+_, _-_, _*_, _≤_, _<_}
+use native.Mathlib.Omega.{arith}
+use borrow.Author.Tests.{eq-eqb, ne-eqb, le-leb, lt-leb}
+use lib.Dec.{eqb, leb}
+use lib.ListN.{length, take, drop, getD}
+use lib.Seq.{take-all}
+use Rattle.format.specs.Seq.{All, every}
+use Rattle.format.specs.Trie.{bits, onBits}
+use Rattle.format.specs.Page.{Byte, firstSubtries, nodeCount}
+use Rattle.format.specs.Question.{firstNo, isPositive, isZero}
+use Rattle.format.proofs.Lists.{all-drop}
+use Rattle.format.proofs.Counting.{marks, marks-add, marks-mono, thirdAt, fourthAt, nodes-counted, links-counted, subtrie-counted, every-flatten, flatten-levels}
+use Rattle.nodes.specs.declared.Words.{Words}
+use Rattle.nodes.specs.Words.{wordsOf, onesBefore, noneEmpty}
+use Rattle.nodes.proofs.Numbers.{Nodes}
+use Rattle.nodes.proofs.Gathered.{length-nodes, nodes-small}
+use Rattle.nodes.proofs.Used.{rest-empty-law}
+use Rattle.nodes.proofs.Calls.{counted, all-counted, none-found-empty}
+use Rattle.checker.specs.Refusal.{refusalOf}
+use Rattle.checker.specs.declared.page.Shape.{Shape}
+use Rattle.checker.specs.Paged.{pairsAt, levels, shapeQuestions, Shaped}
+use Rattle.checker.proofs.Asked.{asked-yes, asked-no}
+
+-- ---- bounds
+
+two-bits : (m : ℕ) (l : List ℕ) → Nodes l → onBits (take m l) ≤ 2 * m
+unfolding onBits bits
+two-bits zero l h = omega arith
+two-bits (suc m) [] h = omega arith
+two-bits (suc m) (d ∷ l) h =
+    let p : d ≤ 3 = h .0 in
+    omega (arith, two-bits m l (h .1))
+
+-- the words of a page of r roots
+pub record Known (img : List ℕ) (at r : ℕ) (w : Words) : Type 0 where
+  pub small : All Byte img
+  pub fits : at + 64 ≤ length img
+  pub gathered : w ≡ wordsOf img at
+  pub some-roots : 1 ≤ r
+  pub few-roots : r ≤ 60
+
+module _ {img : List ℕ} {at r : ℕ} {w : Words} (k : Known img at r w) where
+  nodes : Nodes (pairsAt img at)
+  nodes = nodes-small img (k .small) at (k .fits)
+
+  -- m places further there are at most 2 * m on bits more
+  marks-grow : (n m : ℕ) → marks (pairsAt img at) (n + m) ≤ marks (pairsAt img at) n + 2 * m
+  marks-grow n m = omega (arith, marks-add (pairsAt img at) n m, two-bits m (drop n (pairsAt img at)) (all-drop (λ d. d ≤ 3) n (pairsAt img at) nodes))
+
+  marks-few : (n : ℕ) → marks (pairsAt img at) n ≤ 2 * n
+  unfolding marks
+  marks-few n = two-bits n (pairsAt img at) nodes
+
+  rank : (n x : ℕ) → n ≤ 240 → x ≡ onesBefore (w .word) (w .before) n → x ≡ marks (pairsAt img at) n
+  unfolding marks
+  rank n x h e = e ∙ counted img (k .small) at (k .fits) w (k .gathered) n h
+
+  whole : marks (pairsAt img at) 240 ≡ onBits (pairsAt img at)
+  unfolding marks
+  whole = ap onBits (take-all 240 (pairsAt img at) (omega (arith, length-nodes img (k .small) at (k .fits))))
+
+  -- question 10's second half, of as many pairs as there are nodes
+  all-positive : every (every isPositive) (levels (pairsAt img at) r) ≡ every isPositive (take (nodeCount r (levels (pairsAt img at) r)) (pairsAt img at))
+  all-positive = every-flatten isPositive (levels (pairsAt img at) r) ∙ ap (every isPositive) (flatten-levels 4 r (pairsAt img at))
+
+-- ---- the level ends, one after another
+
+-- a on bits in the first level
+pub record Second (img : List ℕ) (at r : ℕ) (w : Words) (a : ℕ) : Type 0 where
+  pub known : Known img at r w
+  pub is : a ≡ marks (pairsAt img at) r
+  pub few : a ≤ 120
+
+pub second : {img : List ℕ} {at r : ℕ} {w : Words} → Known img at r w → (a : ℕ) → a ≡ onesBefore (w .word) (w .before) r → Second img at r w a
+second {img} {at} {r} {w} k a e =
+    let f = rank k r a (omega (arith, k .few-roots)) e in
+    record { known = k; is = f; few = omega (arith, marks-few k r, k .few-roots) }
+
+-- b on bits in the first and second
+pub record Third (img : List ℕ) (at r : ℕ) (w : Words) (a b : ℕ) : Type 0 where
+  pub before : Second img at r w a
+  pub is : b ≡ marks (pairsAt img at) (r + a)
+  pub place : r + b ≡ fourthAt (pairsAt img at) r
+
+pub third : {img : List ℕ} {at r : ℕ} {w : Words} {a : ℕ} → Second img at r w a → (b : ℕ) → b ≡ onesBefore (w .word) (w .before) (r + a) → Third img at r w a b
+third {img} {at} {r} {w} {a} s b e =
+    let f = rank (s .known) (r + a) b (omega (arith, s .few, s .known .few-roots)) e in
+    record { before = s; is = f; place = ap (r +_) (f ∙ ap (λ (x : ℕ). marks (pairsAt img at) (r + x)) (s .is)) }
+
+-- c on bits in the first three: where the page ends
+pub record Fourth (img : List ℕ) (at r : ℕ) (w : Words) (a b c : ℕ) : Type 0 where
+  pub before : Third img at r w a b
+  pub is : c ≡ marks (pairsAt img at) (r + b)
+  pub nodes-are : r + c ≡ nodeCount r (levels (pairsAt img at) r)
+
+pub fourth : {img : List ℕ} {at r : ℕ} {w : Words} {a b : ℕ} → Third img at r w a b → r + b ≤ 240 → (c : ℕ) → c ≡ onesBefore (w .word) (w .before) (r + b) → Fourth img at r w a b c
+fourth {img} {at} {r} {w} {a} {b} t h c e =
+    let f = rank (t .before .known) (r + b) c h e in
+    record { before = t; is = f; nodes-are = ap (r +_) (f ∙ ap (marks (pairsAt img at)) (t .place)) ∙ sym (nodes-counted (pairsAt img at) r) }
+
+-- all the page's on bits stand before its end
+pub record Ended (img : List ℕ) (at r : ℕ) (w : Words) (a b c all : ℕ) : Type 0 where
+  pub before : Fourth img at r w a b c
+  pub fits : r + c ≤ 240
+  pub asked : none ≡ firstNo (shapeQuestions (pairsAt img at) r)
+  pub all-is : all ≡ onBits (pairsAt img at)
+  pub end-is : all ≡ marks (pairsAt img at) (r + c)
+
+-- ---- the first subtrie
+
+module _ {img : List ℕ} {at r : ℕ} {w : Words} {a b c all : ℕ} (e : Ended img at r w a b c all) where
+  known : Known img at r w
+  known = e .before .before .before .known
+
+  -- f on bits in the first root
+  pub first-second : (f : ℕ) → f ≡ onesBefore (w .word) (w .before) 1 → (f ≡ marks (pairsAt img at) 1) × (f ≤ 2)
+  first-second f h =
+      let g = rank known 1 f (omega arith) h in
+      (g, omega (arith, marks-few known 1))
+
+  -- x on bits up to the end of the first subtrie's second level
+  pub first-third : (f x : ℕ) → f ≤ 2 → x ≡ onesBefore (w .word) (w .before) (r + f) → (x ≡ marks (pairsAt img at) (r + f)) × (a ≤ x) × (x - a ≤ 4)
+  first-third f x few h =
+      let g = rank known (r + f) x (omega (arith, known .few-roots)) h in
+      let i = e .before .before .before .is in
+      (g, omega (arith, marks-mono (pairsAt img at) r (r + f) (omega arith)), omega (arith, marks-grow known r f))
+
+  -- and of its third level
+  pub first-fourth : (y x : ℕ) → y ≤ 4 → x ≡ onesBefore (w .word) (w .before) (r + a + y) → (x ≡ marks (pairsAt img at) (r + a + y)) × (b ≤ x) × (x - b ≤ 8)
+  first-fourth y x few h =
+      let g = rank known (r + a + y) x (omega (arith, known .few-roots, e .before .before .before .few)) h in
+      let i = e .before .before .is in
+      (g, omega (arith, marks-mono (pairsAt img at) (r + a) (r + a + y) (omega arith)), omega (arith, marks-grow known (r + a) y))
+
+-- ---- questions 10 and 11
+
+module _ {img : List ℕ} {at r : ℕ} {w : Words} {a b : ℕ} (t : Third img at r w a b) where
+  pub over-fourth : 240 < r + b → some 10 ≡ firstNo (shapeQuestions (pairsAt img at) r)
+  unfolding shapeQuestions
+  over-fourth h =
+      let ps : List ℕ = pairsAt img at in
+      let third-first : r ≤ thirdAt ps r = omega arith in
+      let fourth-third : thirdAt ps r ≤ fourthAt ps r = omega (arith, marks-mono ps r (thirdAt ps r) third-first) in
+      let over : 240 < nodeCount r (levels ps r) =
+      omega (arith, nodes-counted ps r, marks-mono ps (thirdAt ps r) (fourthAt ps r) fourth-third, t .place) in
+      sym (asked-no 10 _ _ (ap (_&& every (every isPositive) (levels ps r)) (lt-leb (nodeCount r (levels ps r)) 240 over)))
+
+module _ {img : List ℕ} {at r : ℕ} {w : Words} {a b c : ℕ} (f : Fourth img at r w a b c) where
+  k : Known img at r w
+  k = f .before .before .known
+
+  pub over-end : 240 < r + c → some 10 ≡ firstNo (shapeQuestions (pairsAt img at) r)
+  unfolding shapeQuestions
+  over-end h = sym (asked-no 10 _ _ (ap (_&& every (every isPositive) (levels (pairsAt img at) r)) (lt-leb (nodeCount r (levels (pairsAt img at) r)) 240 (omega (arith, f .nodes-are)))))
+
+  module _ (h : r + c ≤ 240) (p : Bool) (ep : p ≡ noneEmpty (w .word) (r + c)) where
+    p-is : p ≡ every isPositive (take (r + c) (pairsAt img at))
+    p-is = ep ∙ none-found-empty img (k .small) at (k .fits) w (k .gathered) (r + c) h
+
+    ten : (leb (nodeCount r (levels (pairsAt img at) r)) 240 && every (every isPositive) (levels (pairsAt img at) r)) ≡ p
+    ten =
+        ap₂ _&&_ (le-leb (nodeCount r (levels (pairsAt img at) r)) 240 (omega (arith, f .nodes-are)))
+        (all-positive k ∙ ap (λ (n : ℕ). every isPositive (take n (pairsAt img at))) (sym (f .nodes-are)) ∙ sym p-is)
+
+    pub empty-found : p ≡ false → some 10 ≡ firstNo (shapeQuestions (pairsAt img at) r)
+    unfolding shapeQuestions
+    empty-found e = sym (asked-no 10 _ _ (ten ∙ e))
+
+    module _ (yes-10 : p ≡ true) (all x : ℕ) (ea : all ≡ getD (w .before) 8 0) (ex : x ≡ onesBefore (w .word) (w .before) (r + c)) where
+      all-is : all ≡ onBits (pairsAt img at)
+      all-is = ea ∙ all-counted img (k .small) at (k .fits) w (k .gathered)
+
+      x-is : x ≡ marks (pairsAt img at) (r + c)
+      x-is = rank k (r + c) x h ex
+
+      eleven : every isZero (drop (nodeCount r (levels (pairsAt img at) r)) (pairsAt img at)) ≡ eqb x all
+      unfolding marks
+      eleven =
+          ap (λ (n : ℕ). every isZero (drop n (pairsAt img at))) (sym (f .nodes-are))
+          ∙ sym (rest-empty-law (pairsAt img at) (r + c))
+          ∙ sym (ap₂ eqb x-is all-is)
+
+      pub rest-found : (x ≡ all → ⊥) → some 11 ≡ firstNo (shapeQuestions (pairsAt img at) r)
+      unfolding shapeQuestions
+      rest-found n = sym (asked-yes 10 _ _ (ten ∙ yes-10) ∙ asked-no 11 _ _ (eleven ∙ ne-eqb x all n))
+
+      both : x ≡ all → firstNo (shapeQuestions (pairsAt img at) r) ≡ firstNo []
+      unfolding shapeQuestions
+      both e = asked-yes 10 _ _ (ten ∙ yes-10) ∙ asked-yes 11 _ _ (eleven ∙ eq-eqb x all e)
+
+      pub ended : x ≡ all → Ended img at r w a b c all
+      unfolding firstNo
+      ended e = record {
+        before = f;
+        fits = h;
+        asked = sym (both e);
+        all-is = all-is;
+        end-is = sym e ∙ x-is;
+      }
+
+-- ---- a yes at both
+
+-- what a page that is refused says
+pub refused-shape : {ps : List ℕ} {r n : ℕ} (s : Shape) → some (suc n) ≡ firstNo (shapeQuestions ps r) → (s .refusal ≡ suc n) × (s .nodes ≡ 0) × (s .links ≡ 0) × (s .first ≡ 0) → Shaped ps r s
+unfolding refusalOf
+refused-shape s e h = record {
+  asked = ap refusalOf (h .0) ∙ e;
+  counted = λ z. absurd (omega arith);
+  bounded = record { few-nodes = omega arith; few-links = omega arith; small-first = omega arith };
+}
+
+module _ {img : List ℕ} {at r : ℕ} {w : Words} {a b c all : ℕ} (e : Ended img at r w a b c all) where
+  pub links-few : c ≤ all
+  links-few =
+      let f = e .before in
+      let t = f .before in
+      let p : List ℕ = pairsAt img at in
+      let ab : a ≤ b = omega (arith, t .is, t .before .is, marks-mono p r (r + a) (omega arith)) in
+      let bc : b ≤ c = omega (arith, f .is, t .is, marks-mono p (r + a) (r + b) (omega arith)) in
+      omega (arith, e .end-is, f .is, marks-mono p (r + b) (r + c) (omega arith))
+
+  links-is : all - c ≡ onBits (getD (levels (pairsAt img at) r) 3 [])
+  links-is =
+      let f = e .before in
+      let p : List ℕ = pairsAt img at in
+      omega (arith, links-counted p r, f .is, ap (marks p) (f .before .place), e .end-is, ap (marks p) (f .nodes-are ∙ nodes-counted p r))
+
+  module _ (f x y : ℕ) (ef : (f ≡ marks (pairsAt img at) 1) × (f ≤ 2)) (ex : (x ≡ marks (pairsAt img at) (r + f)) × (a ≤ x) × (x - a ≤ 4))
+      (ey : (y ≡ marks (pairsAt img at) (r + a + (x - a))) × (b ≤ y) × (y - b ≤ 8)) where
+    first-is : 1 + f + (x - a) + (y - b) ≡ nodeCount 1 (firstSubtries 1 (levels (pairsAt img at) r))
+    first-is =
+        let p : List ℕ = pairsAt img at in
+        let s = e .before .before .before in
+        let third-is : r + a ≡ thirdAt p r = ap (r +_) (s .is) in
+        sym (subtrie-counted p r (s .known .some-roots) f (x - a) (y - b) (sym (ef .0)) (omega (arith, s .is))
+        (omega (arith, e .before .before .is, ap (marks p) third-is, ap (λ (n : ℕ). marks p (n + (x - a))) third-is)))
+
+    pub shaped : Shaped (pairsAt img at) r (record { refusal = 0; nodes = r + c; links = all - c; first = 1 + f + (x - a) + (y - b) })
+    unfolding refusalOf
+    shaped = record {
+      asked = e .asked;
+      counted = λ z. record { nodes-are = e .before .nodes-are; links-are = links-is; first-is = first-is };
+      bounded = record {
+        few-nodes = e .fits;
+        few-links = omega (arith, e .end-is, marks-few (e .before .before .before .known) (r + c), e .fits);
+        small-first = omega arith;
+      };
+    }

@@ -1,0 +1,85 @@
+-- Loops that ask one thing of each element of a run: what the elements passed and those left have to do with the whole. Assumes nothing.
+use mathlib.Core.Path.{_≡_, refl, sym, ap, ap₂, _∙_}
+use mathlib.Core.Bool.{Bool, true, false, _&&_}
+use mathlib.Core.List.{List, _∷_}
+use Prim.Native.Nat.{ℕ, zero, suc, _+_, _-_, _*_, _≤_, _<_}
+use native.Mathlib.Numerals.{add-one}
+use native.Mathlib.Decide.{ℕ-discrete}
+use native.Mathlib.Omega.{arith}
+use borrow.Author.Tests.{eq-eqb, ne-eqb}
+use lib.Dec.{eqb}
+use lib.ListN.{length, take, drop, getD}
+use lib.Seq.{drop-cons}
+use Rattle.format.specs.Seq.{every, numbersFrom}
+use Rattle.format.specs.Page.{numberAt}
+use Rattle.format.specs.Image.{pageCount, rootCount}
+use Rattle.format.specs.Question.{isZero}
+use Rattle.checker.specs.Refusal.{countsZero}
+
+-- ---- every element passes a test
+
+module _ (f : ℕ → Bool) (x : ℕ) (xs : List ℕ) where
+  pub every-yes : f x ≡ true → every f (x ∷ xs) ≡ every f xs
+  unfolding every
+  every-yes e = rw e
+
+  pub every-no : f x ≡ false → every f (x ∷ xs) ≡ false
+  unfolding every
+  every-no e = rw e
+
+-- ---- runs
+
+-- element i, and n after it
+run-one : (l : List ℕ) (i n k : ℕ) → i < length l → i + 1 ≡ k → take (suc n) (drop i l) ≡ getD l i 0 ∷ take n (drop k l)
+run-one l i n k h e = ap (take (suc n)) (drop-cons l i 0 h) ∙ ap (λ (x : ℕ). getD l i 0 ∷ take n (drop x l)) (sym (add-one i) ∙ e)
+
+-- the elements from i up to e
+pub run-next : (l : List ℕ) (i e : ℕ) → i < e → e ≤ length l → take (e - i) (drop i l) ≡ getD l i 0 ∷ take (e - (i + 1)) (drop (i + 1) l)
+run-next l i e h r =
+    let f : e - i ≡ suc (e - (i + 1)) = omega arith in
+    ap (λ (n : ℕ). take n (drop i l)) f ∙ run-one l i (e - (i + 1)) (i + 1) (omega arith) refl
+
+-- the numbers from i up to e
+pub numbers-next : (i e : ℕ) → i < e → numbersFrom i (e - i) ≡ i ∷ numbersFrom (i + 1) (e - (i + 1))
+unfolding numbersFrom
+numbers-next i e h =
+    let f : e - i ≡ suc (e - (i + 1)) = omega arith in
+    ap (numbersFrom i) f ∙ ap (λ (n : ℕ). i ∷ numbersFrom n (e - (i + 1))) (sym (add-one i))
+
+-- ---- the band counts are 0 where their bytes are
+
+number-zero : (h l : ℕ) → eqb (256 * h + l) 0 ≡ eqb h 0 && eqb l 0
+number-zero h l = elim (ℕ-discrete h 0) [
+  | yes e ↦ elim (ℕ-discrete l 0) [
+    | yes f ↦ eq-eqb (256 * h + l) 0 (omega arith) ∙ sym (ap₂ _&&_ (eq-eqb h 0 e) (eq-eqb l 0 f))
+    | no f ↦ ne-eqb (256 * h + l) 0 (λ g. f (omega arith)) ∙ sym (ap₂ _&&_ (eq-eqb h 0 e) (ne-eqb l 0 f))
+  ]
+  | no e ↦ ne-eqb (256 * h + l) 0 (λ g. e (omega arith)) ∙ sym (ap (_&& eqb l 0) (ne-eqb h 0 e))
+]
+
+and-four : (a b c d e : Bool) → a && (b && (c && (d && e))) ≡ ((a && b) && (c && d)) && e
+and-four true true true d e = refl
+and-four true true false d e = refl
+and-four true false c d e = refl
+and-four false b c d e = refl
+
+pub zero-counts : (img : List ℕ) (b m at : ℕ) → at ≡ 4 + 4 * b → at + 4 * m ≤ length img → every isZero (take (4 * m) (drop at img)) ≡ every (countsZero img) (numbersFrom b m)
+unfolding every numbersFrom isZero pageCount rootCount numberAt
+zero-counts img b zero at e h = refl
+zero-counts img b (suc m) at e h =
+    let f : 4 * suc m ≡ suc (suc (suc (suc (4 * m)))) = omega arith in
+    let four : take (4 * suc m) (drop at img) ≡ getD img at 0 ∷ getD img (at + 1) 0 ∷ getD img (at + 2) 0 ∷ getD img (at + 3) 0 ∷ take (4 * m) (drop (at + 4) img) =
+    ap (λ (n : ℕ). take n (drop at img)) f
+    ∙ run-one img at (suc (suc (suc (4 * m)))) (at + 1) (omega arith) refl
+    ∙ ap (getD img at 0 ∷_) (run-one img (at + 1) (suc (suc (4 * m))) (at + 2) (omega arith) (omega arith)
+    ∙ ap (getD img (at + 1) 0 ∷_) (run-one img (at + 2) (suc (4 * m)) (at + 3) (omega arith) (omega arith)
+    ∙ ap (getD img (at + 2) 0 ∷_) (run-one img (at + 3) (4 * m) (at + 4) (omega arith) (omega arith)))) in
+    let e₂ : at + 2 ≡ 6 + 4 * b = omega arith in
+    let e₃ : at + 3 ≡ 6 + 4 * b + 1 = omega arith in
+    let zero? : ℕ → Bool = λ i. eqb (getD img i 0) 0 in
+    ap (every isZero) four
+    ∙ and-four (zero? at) (zero? (at + 1)) (zero? (at + 2)) (zero? (at + 3)) (every isZero (take (4 * m) (drop (at + 4) img)))
+    ∙ ap₂ _&&_
+    (ap₂ _&&_ (ap (λ (x : ℕ). zero? x && zero? (x + 1)) e ∙ sym (number-zero (getD img (4 + 4 * b) 0) (getD img (4 + 4 * b + 1) 0)))
+    (ap₂ (λ (x y : ℕ). zero? x && zero? y) e₂ e₃ ∙ sym (number-zero (getD img (6 + 4 * b) 0) (getD img (6 + 4 * b + 1) 0))))
+    (zero-counts img (suc b) m (at + 4) (omega arith) (omega arith))

@@ -1,0 +1,92 @@
+// Questions 8 to 13 of a band, and of all eight bands.
+use crate::header::key_count;
+use crate::header::number;
+use crate::header::page_count;
+use crate::header::root_count;
+use crate::page::check_page;
+use format::OutLink;
+use format::Root;
+use format::cross;
+ghost use mathlib.Core.Path.{_≡_};
+ghost use mathlib.Core.Bool.{cond};
+ghost use mathlib.Core.List.{flatMap};
+ghost use Prim.Native.Nat.{_+_, _*_, _≤_, _<_};
+ghost use lib.Dec.{ltb};
+ghost use lib.ListN.{length};
+ghost use Rattle.format.specs.Page.{numberAt};
+ghost use Rattle.format.specs.Image.{bands};
+ghost use Rattle.format.specs.Question.{firstNo, bandQuestions, outLinksDue};
+ghost use Rattle.checker.specs.Refusal.{refusalOf};
+ghost use Rattle.checker.specs.Paged.{Sized, BandAt};
+
+// The first root after page `i` of a band with so many pages and roots, whose first page is page `first` of the image.
+fn next_root(image: &[u8], first: usize, i: usize, pages: usize, roots: usize) -> Root
+    requires { ⌜ (i < pages) × (64 * (first + pages) ≤ length (now image)) ⌝ }
+    ensures { λ r. ⌜ r .0 ≡ cond (ltb (i + 1) pages) (numberAt (now (image .entry)) (64 * (first + (i + 1)))) roots ⌝ }
+{
+    let next = i + 1;
+    if next < pages {
+        return Root(number(image, 64 * (first + next)));
+    }
+    Root(roots)
+}
+
+// The root after the last of the band below band `band`. Below band 8 stand the keys.
+fn end_below(image: &[u8], band: usize) -> Root
+    requires { ⌜ (64 ≤ length (now image)) × (band ≤ 8) ⌝ }
+    ensures { λ r. ⌜ r .0 ≡ outLinksDue (now (image .entry)) band ⌝ }
+{
+    if band < 8 {
+        return Root(root_count(image, band + 1));
+    }
+    Root(key_count(image))
+}
+
+// The number of the first question of band `band` that gets a no, 0 where none does. The band's first page is page `first` of the image.
+pub fn band_refusal(image: &[u8], band: usize, first: usize) -> u8
+    requires { ⌜ BandAt (now image) band first ⌝ }
+    ensures { λ r. ⌜ refusalOf r ≡ firstNo (bandQuestions (now (image .entry)) band) ⌝ }
+{
+    let pages = page_count(image, band);
+    let roots = root_count(image, band);
+    let mut t = Root(0);
+    let mut links = OutLink(0);
+    let mut nodes = 241;
+    let mut i = 0;
+    while i < pages {
+        let next = next_root(image, first, i, pages, roots);
+        let found = check_page(image, 64 * (first + i), t, links, next, nodes);
+        if found.refusal != 0 {
+            return found.refusal;
+        }
+        t = next;
+        links = OutLink(links.0 + found.links);
+        nodes = found.nodes;
+        i += 1;
+    }
+    let reached = cross(links);
+    let below = end_below(image, band);
+    if reached.0 != below.0 {
+        return 13;
+    }
+    0
+}
+
+// The number of the first question of the bands that gets a no, 0 where none does.
+pub fn bands_refusal(image: &[u8]) -> u8
+    requires { ⌜ Sized (now image) ⌝ }
+    ensures { λ r. ⌜ refusalOf r ≡ firstNo (flatMap (bandQuestions (now (image .entry))) bands) ⌝ }
+{
+    let mut passed = 0;
+    let mut first = 1;
+    while passed < 8 {
+        let band = passed + 1;
+        let refusal = band_refusal(image, band, first);
+        if refusal != 0 {
+            return refusal;
+        }
+        first += page_count(image, band);
+        passed = band;
+    }
+    0
+}

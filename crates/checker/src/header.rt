@@ -1,0 +1,158 @@
+// The header's numbers, and questions 1 to 7. The other jobs read the header through these functions too.
+ghost use mathlib.Core.Path.{_≡_};
+ghost use mathlib.Core.List.{map};
+ghost use Prim.Native.Nat.{_+_, _-_, _*_, _≤_, _<_};
+ghost use lib.ListN.{length, take, drop};
+ghost use Rattle.format.specs.Seq.{every, numbersFrom, total};
+ghost use Rattle.format.specs.Page.{numberAt};
+ghost use Rattle.format.specs.Image.{bands, keyCount, pageCount, rootCount};
+ghost use Rattle.format.specs.Question.{isZero, markRight, countsFit, headerQuestions, firstNo};
+ghost use Rattle.checker.specs.Refusal.{refusalOf, countsPositive};
+
+fn wide(byte: u8) -> usize
+    ensures { λ r. ⌜ (r ≡ byte) × (r < 256) ⌝ }
+{
+    byte as usize
+}
+
+// The number of two bytes at `at`, the higher byte first.
+pub fn number(bytes: &[u8], at: usize) -> usize
+    requires { ⌜ at + 2 ≤ length (now bytes) ⌝ }
+    ensures { λ r. ⌜ (r ≡ numberAt (now (bytes .entry)) at) × (r < 65536) ⌝ }
+{
+    256 * wide(bytes[at]) + wide(bytes[at + 1])
+}
+
+// The key count.
+pub fn key_count(image: &[u8]) -> usize
+    requires { ⌜ 64 ≤ length (now image) ⌝ }
+    ensures { λ r. ⌜ (r ≡ keyCount (now (image .entry))) × (r < 65536) ⌝ }
+{
+    number(image, 6)
+}
+
+// The page count of band `band`, from 1 to 8.
+pub fn page_count(image: &[u8], band: usize) -> usize
+    requires { ⌜ (64 ≤ length (now image)) × (band ≤ 8) ⌝ }
+    ensures { λ r. ⌜ (r ≡ pageCount (now (image .entry)) band) × (r < 65536) ⌝ }
+{
+    number(image, 4 + 4 * band)
+}
+
+// The root count of band `band`, from 1 to 8.
+pub fn root_count(image: &[u8], band: usize) -> usize
+    requires { ⌜ (64 ≤ length (now image)) × (band ≤ 8) ⌝ }
+    ensures { λ r. ⌜ (r ≡ rootCount (now (image .entry)) band) × (r < 65536) ⌝ }
+{
+    number(image, 6 + 4 * band)
+}
+
+// The pages of all bands.
+pub fn total_pages(image: &[u8]) -> usize
+    requires { ⌜ 64 ≤ length (now image) ⌝ }
+    ensures { λ r. ⌜ (r ≡ total (map (pageCount (now (image .entry))) bands)) × (r < 524288) ⌝ }
+{
+    page_count(image, 1)
+        + page_count(image, 2)
+        + page_count(image, 3)
+        + page_count(image, 4)
+        + page_count(image, 5)
+        + page_count(image, 6)
+        + page_count(image, 7)
+        + page_count(image, 8)
+}
+
+// Whether the bytes from `from` up to `to` are zero.
+fn all_zero(bytes: &[u8], from: usize, to: usize) -> bool
+    requires { ⌜ (from ≤ to) × (to ≤ length (now bytes)) ⌝ }
+    ensures { λ r. ⌜ r ≡ every isZero (take (to - from) (drop from (now (bytes .entry)))) ⌝ }
+{
+    let mut i = from;
+    while i < to {
+        if bytes[i] != 0 {
+            return false;
+        }
+        i += 1;
+    }
+    true
+}
+
+// Question 2: whether bytes 0 to 2 are 4C 50 54.
+fn mark_right(image: &[u8]) -> bool
+    requires { ⌜ 64 ≤ length (now image) ⌝ }
+    ensures { λ r. ⌜ r ≡ markRight (now (image .entry)) ⌝ }
+{
+    if image[0] != 0x4C {
+        return false;
+    }
+    if image[1] != 0x50 {
+        return false;
+    }
+    image[2] == 0x54
+}
+
+// Whether the counts of bands 2 to 8 are all at least 1.
+fn counts_positive(image: &[u8]) -> bool
+    requires { ⌜ 64 ≤ length (now image) ⌝ }
+    ensures { λ r. ⌜ r ≡ every (countsPositive (now (image .entry))) (numbersFrom 2 7) ⌝ }
+{
+    let mut band = 2;
+    while band <= 8 {
+        if page_count(image, band) < 1 {
+            return false;
+        }
+        if root_count(image, band) < 1 {
+            return false;
+        }
+        band += 1;
+    }
+    true
+}
+
+// Question 7.
+fn counts_fit(image: &[u8]) -> bool
+    requires { ⌜ 64 ≤ length (now image) ⌝ }
+    ensures { λ r. ⌜ r ≡ countsFit (now (image .entry)) ⌝ }
+{
+    if key_count(image) == 0 {
+        return all_zero(image, 8, 40);
+    }
+    if page_count(image, 1) != 1 {
+        return false;
+    }
+    if root_count(image, 1) != 1 {
+        return false;
+    }
+    counts_positive(image)
+}
+
+// The number of the first question of 1 to 7 that gets a no, 0 where none does.
+pub fn header_refusal(image: &[u8]) -> u8
+    ensures { λ r. ⌜ refusalOf r ≡ firstNo (headerQuestions (now (image .entry))) ⌝ }
+{
+    if image.len() < 64 {
+        return 1;
+    }
+    if !mark_right(image) {
+        return 2;
+    }
+    if number(image, 3) != 1 {
+        return 3;
+    }
+    if 4096 < key_count(image) {
+        return 4;
+    }
+    if image[5] != 0 {
+        return 5;
+    }
+    if !all_zero(image, 40, 64) {
+        return 5;
+    }
+    if image.len() != 64 * (1 + total_pages(image)) {
+        return 6;
+    }
+    if !counts_fit(image) {
+        return 7;
+    }
+    0
+}

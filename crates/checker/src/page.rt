@@ -1,0 +1,100 @@
+// Questions 8 to 12 of one page.
+use crate::header::number;
+use format::OutLink;
+use format::Root;
+ghost use mathlib.Core.Path.{_≡_};
+ghost use Prim.Native.Nat.{_+_, _-_, _≤_};
+ghost use lib.ListN.{length};
+ghost use Rattle.checker.specs.Paged.{pairsAt, Shaped, PageAsked};
+
+// What the questions of a page find: the number of the first that gets a no, 0 where none does, and then the page's nodes, its out-links and the
+// nodes of its first subtrie.
+pub struct Shape {
+    pub refusal: u8,
+    pub nodes: usize,
+    pub links: usize,
+    pub first: usize,
+}
+
+fn refused(refusal: u8) -> Shape
+    ensures { λ r. ⌜ (r .refusal ≡ refusal) × (r .nodes ≡ 0) × (r .links ≡ 0) × (r .first ≡ 0) ⌝ }
+{
+    Shape {
+        refusal,
+        nodes: 0,
+        links: 0,
+        first: 0,
+    }
+}
+
+// Questions 10 and 11 of the page at `at` with so many roots.
+pub fn check_shape(image: &[u8], at: usize, roots: usize) -> Shape
+    requires { ⌜ (at + 64 ≤ length (now image)) × (1 ≤ roots) × (roots ≤ 60) ⌝ }
+    ensures { λ r. ⌜ Shaped (pairsAt (now (image .entry)) at) roots r ⌝ }
+{
+    let words = nodes::gather(image, at);
+    let second_on = nodes::on_bits_before(&words.word, &words.before, roots);
+    let third = roots + second_on;
+    let third_on = nodes::on_bits_before(&words.word, &words.before, third);
+    let fourth = roots + third_on;
+    if 240 < fourth {
+        return refused(10);
+    }
+    let fourth_on = nodes::on_bits_before(&words.word, &words.before, fourth);
+    let end = roots + fourth_on;
+    if 240 < end {
+        return refused(10);
+    }
+    if !nodes::none_empty(&words.word, end) {
+        return refused(10);
+    }
+    let all_on = nodes::on_bits(&words.before);
+    if nodes::on_bits_before(&words.word, &words.before, end) != all_on {
+        return refused(11);
+    }
+    let first2 = nodes::on_bits_before(&words.word, &words.before, 1);
+    let first3 = nodes::on_bits_before(&words.word, &words.before, roots + first2) - second_on;
+    let first4 = nodes::on_bits_before(&words.word, &words.before, third + first3) - third_on;
+    Shape {
+        refusal: 0,
+        nodes: end,
+        links: all_on - fourth_on,
+        first: 1 + first2 + first3 + first4,
+    }
+}
+
+// Questions 8 to 12 of the page at `at`. Before it stand the band's roots below `t` and its out-links below `links`, `next` is the first root after it, and
+// the page before has `previous` nodes: 241 in a band's first page, which is always needed.
+pub fn check_page(
+    image: &[u8],
+    at: usize,
+    t: Root,
+    links: OutLink,
+    next: Root,
+    previous: usize,
+) -> Shape
+    requires { ⌜ (at + 64 ≤ length (now image)) × (previous ≤ 241) ⌝ }
+    ensures { λ r. ⌜ PageAsked (now (image .entry)) at (t .0) (links .0) (next .0) previous r ⌝ }
+{
+    if number(image, at) != t.0 {
+        return refused(8);
+    }
+    if number(image, at + 2) != links.0 {
+        return refused(8);
+    }
+    if next.0 <= t.0 {
+        return refused(9);
+    }
+    let roots = next.0 - t.0;
+    if 60 < roots {
+        return refused(9);
+    }
+    let found = check_shape(image, at, roots);
+    if found.refusal != 0 {
+        return found;
+    }
+    if found.first + previous <= 240 {
+        return refused(12);
+    }
+    found
+}
