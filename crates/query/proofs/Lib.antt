@@ -1,0 +1,14 @@
+pub mod Pages
+pub mod Search
+pub mod Opened
+pub mod Follow
+pub mod Sides
+pub mod Path
+pub mod Climbing
+pub mod Ranked
+pub mod Ranks
+pub mod Sets
+pub mod Cell
+pub mod Reading
+pub mod Levels
+pub mod Subtries

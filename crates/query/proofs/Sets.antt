@@ -1,0 +1,40 @@
+-- Sets of bits: the bit of a number, and a set read level by level.
+-- Assumes nothing.
+use mathlib.Core.Bool.{Bool, true, false}
+use mathlib.Core.Path.{_≡_, refl, sym, ap, _∙_}
+use Prim.Native.Nat.{ℕ, zero, suc, _+_, _-_, _*_, _/_, _%_, _^_, _≤_, _<_}
+use native.Mathlib.Nat.{div-one, div-div-eq-div-mul, pow-succ'}
+use native.Mathlib.Decide.{decLt}
+use native.Mathlib.Omega.{arith}
+use Rattle.query.specs.Subtrie.{asBit, setOf, setBit}
+
+pub bit-small : (b : Bool) → asBit b ≤ 1
+unfolding asBit
+bit-small true = omega arith
+bit-small false = omega arith
+
+pub set-small : (f : ℕ → Bool) (n : ℕ) → setOf f n < 2 ^ n
+unfolding setOf
+set-small f zero = omega arith
+set-small f (suc n) = omega (arith, set-small f n, bit-small (f n), pow-succ' 2 n)
+
+-- bit v of the set tells whether v passes
+pub set-bit : (f : ℕ → Bool) (w v : ℕ) → v < w → setBit (setOf f w) w v ≡ asBit (f v)
+unfolding setOf
+set-bit f zero v h = absurd (omega arith)
+set-bit f (suc w) v h =
+    elim (decLt v w) [
+      | yes k ↦ let e : suc w - 1 - v ≡ suc (w - 1 - v) = omega arith in
+          let q : (2 * setOf f w + asBit (f w)) / 2 ≡ setOf f w = omega (arith, bit-small (f w)) in
+          ap (λ (n : ℕ). (2 * setOf f w + asBit (f w)) / 2 ^ n % 2) e
+          ∙ ap (λ (n : ℕ). (2 * setOf f w + asBit (f w)) / n % 2) (pow-succ' 2 (w - 1 - v))
+          ∙ ap (_% 2) (sym (div-div-eq-div-mul (2 * setOf f w + asBit (f w)) 2 (2 ^ (w - 1 - v))))
+          ∙ ap (λ (n : ℕ). n / 2 ^ (w - 1 - v) % 2) q
+          ∙ set-bit f w v k
+      | no k ↦ let e : v ≡ w = omega arith in
+          let z : suc w - 1 - v ≡ 0 = omega arith in
+          ap (λ (n : ℕ). (2 * setOf f w + asBit (f w)) / 2 ^ n % 2) z
+          ∙ ap (_% 2) (div-one (2 * setOf f w + asBit (f w)))
+          ∙ (let m : (2 * setOf f w + asBit (f w)) % 2 ≡ asBit (f w) = omega (arith, bit-small (f w)) in m)
+          ∙ ap (λ (n : ℕ). asBit (f n)) (sym e)
+    ]

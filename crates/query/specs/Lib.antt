@@ -1,0 +1,4 @@
+pub mod Page
+pub mod Way
+pub mod Climb
+pub mod Subtrie

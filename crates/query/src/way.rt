@@ -1,0 +1,109 @@
+// The way of a key down the bands.
+ghost use mathlib.Core.Path.{_≡_};
+ghost use Prim.Native.Nat.{_+_, _-_, _*_, _/_, _^_, _≤_, _<_};
+ghost use Rattle.format.proofs.Descent.{bit};
+ghost use Rattle.format.proofs.Lookup.{keyBit};
+ghost use Rattle.query.specs.Page.{Ready, PageRead, childIn};
+ghost use Rattle.query.specs.Way.{AtPrefix, WayRight, FoundRight};
+use crate::Found;
+use crate::Lookup;
+use crate::page::Page;
+use crate::page::band_at;
+use crate::page::page_of_root;
+use format::OutLink;
+use format::Root;
+use format::cross;
+use nodes::node_at;
+use nodes::on_bits_before;
+
+// Where a key goes on from a root: to an out-link of the band, or nowhere.
+pub enum Way {
+    Out(OutLink),
+    Off,
+}
+
+// The bit of a key at a level counted from 0.
+fn key_bit(key: u32, level: usize) -> usize
+    requires { ⌜ level < 32 ⌝ }
+    ensures { λ r. ⌜ (r ≡ keyBit key level) × (r ≤ 1) ⌝ }
+{
+    ((key >> (31 - level)) % 2) as usize
+}
+
+// A bit of a node: the first for side 0, the second for side 1.
+pub fn bit_of(node: u64, side: usize) -> u64
+    ensures { λ r. ⌜ r ≡ bit side node ⌝ }
+{
+    if side == 0 {
+        return node / 2;
+    }
+    node % 2
+}
+
+// The place of the child that the bit of this side of the node at a place leads to: the roots, and the on bits before that bit.
+pub fn child_place<'a>(
+    word: &'a [u64; 9],
+    before: &'a [u16; 9],
+    roots: usize,
+    place: usize,
+    side: usize,
+) -> usize
+    requires { ⌜ (place < 240) × (roots ≤ 60) ⌝ }
+    ensures { λ r. ⌜ (r ≡ childIn (now (word .entry)) (now (before .entry)) roots place side) × (r < 65700) ⌝ }
+{
+    let first = roots + on_bits_before(word, before, place);
+    if side == 0 {
+        return first;
+    }
+    first + (node_at(word, place) / 2) as usize
+}
+
+// Follows a key's four bits in a page from its root.
+fn follow(image: &[u8], page: Page, root: Root, key: u32) -> Way
+    requires { ⌜ (Ready (now image)) × (PageRead (now image) page) × (page .t ≤ root .0) × (root .0 < page .t + page .roots) × (AtPrefix (now image) (4 * (page .band - 1)) (root .0) (key / 2 ^ (36 - 4 * page .band))) ⌝ }
+    ensures { λ r. ⌜ WayRight (now (image .entry)) (page .band) key r ⌝ }
+{
+    let words = page.words;
+    let mut place = root.0 - page.t;
+    let mut level = 0;
+    while level < 4 {
+        let side = key_bit(key, 4 * (page.band - 1) + level);
+        if bit_of(node_at(&words.word, place), side) == 0 {
+            return Way::Off;
+        }
+        place = child_place(&words.word, &words.before, page.roots, place, side);
+        level += 1;
+    }
+    Way::Out(OutLink(page.b + (place - page.nodes)))
+}
+
+// The rank of a key and the page numbers on its path.
+pub fn path(image: &[u8], key: u32) -> Found
+    requires { ⌜ Ready (now image) ⌝ }
+    ensures { λ r. ⌜ FoundRight (now (image .entry)) key (r .answer) (r .pages) ⌝ }
+{
+    let mut pages = [0u32; 8];
+    let mut link = OutLink(0);
+    let mut first = 1;
+    let mut number = 1;
+    while number <= 8 {
+        let band = band_at(image, number, first);
+        let root = cross(link);
+        let page = page_of_root(image, band, root);
+        let way = follow(image, page, root, key);
+        let Way::Out(next) = way else {
+            return Found {
+                answer: Lookup::Absent,
+                pages: [0u32; 8],
+            };
+        };
+        pages[number - 1] = page.number as u32;
+        link = next;
+        first += band.pages;
+        number += 1;
+    }
+    Found {
+        answer: Lookup::Listed(link.0 as u32),
+        pages,
+    }
+}
