@@ -20,6 +20,7 @@ pub mod Read
 pub mod Back
 pub mod Counters
 pub mod Accepted
+pub mod Jobs
 -- from keys to an image that is accepted and has them
 pub mod WrittenPages
 pub mod Written
