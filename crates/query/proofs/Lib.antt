@@ -12,3 +12,5 @@ pub mod Cell
 pub mod Reading
 pub mod Levels
 pub mod Subtries
+pub mod Asked
+pub mod Answers

@@ -2,3 +2,4 @@ pub mod Page
 pub mod Way
 pub mod Climb
 pub mod Subtrie
+pub mod Jobs

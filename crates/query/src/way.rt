@@ -6,7 +6,7 @@ ghost use Rattle.format.proofs.Lookup.{keyBit};
 ghost use Rattle.query.specs.Page.{Ready, PageRead, childIn};
 ghost use Rattle.query.specs.Way.{AtPrefix, WayRight, FoundRight};
 use crate::Found;
-use crate::Lookup;
+use crate::Placed;
 use crate::page::Page;
 use crate::page::band_at;
 use crate::page::page_of_root;
@@ -93,7 +93,7 @@ pub fn path(image: &[u8], key: u32) -> Found
         let way = follow(image, page, root, key);
         let Way::Out(next) = way else {
             return Found {
-                answer: Lookup::Absent,
+                answer: Placed::Absent,
                 pages: [0u32; 8],
             };
         };
@@ -103,7 +103,7 @@ pub fn path(image: &[u8], key: u32) -> Found
         number += 1;
     }
     Found {
-        answer: Lookup::Listed(link.0 as u32),
+        answer: Placed::Listed(link.0 as u32),
         pages,
     }
 }
