@@ -2,7 +2,6 @@
 -- Assumes nothing.
 use mathlib.Core.Path.{_≡_, refl, sym, ap, _∙_}
 use mathlib.Core.Bool.{Bool, true, false, _||_, cond}
-use mathlib.Core.Option.{Option, none, some}
 use mathlib.Core.List.{List, [], _∷_, _++_}
 use Prim.Native.Nat.{ℕ, zero, suc, _+_, _<_, _≤_}
 use native.Mathlib.Omega.{arith}
@@ -15,13 +14,14 @@ use Rattle.format.specs.Seq.{All, consIf, isIn, rankIn, select}
 use Rattle.format.specs.Key.{keyOf}
 use Rattle.format.specs.Page.{Byte}
 use Rattle.format.specs.Image.{keyCount, keysOf}
-use Rattle.format.specs.Question.{Outcome, Question, Yes, firstNo, imageQuestions, outcome, refused, returns, settle}
+use Rattle.format.specs.Question.{Outcome, Question, Yes, imageQuestions, refused, returns, settle}
 use Rattle.format.specs.Scan.{opened, openingsPlace, recordsAfter, recordsAfterScan, scan, scanQuestions}
 use Rattle.format.specs.History.{Card, Opening, afterCard, afterCards, openingOf, openings, recordAfter, scanOf}
 use Rattle.format.proofs.Lists.{all-left, all-right}
 use Rattle.format.proofs.Questions.{none-of-yes, yes-of-none}
 use Rattle.format.proofs.Checked.{checked, cond-no, cond-yes}
 use Rattle.format.proofs.Back.{listed}
+use Rattle.format.proofs.Jobs.{yes-of-returns}
 
 -- ---- one scan
 
@@ -40,7 +40,7 @@ rank-le (y ∷ ys) x = go (ltb y x) (rank-le ys x)
     go true h = omega arith
     go false h = omega arith
 
-rank-below : (xs : List ℕ) (x : ℕ) → isIn x xs ≡ true → rankIn xs x < length xs
+pub rank-below : (xs : List ℕ) (x : ℕ) → isIn x xs ≡ true → rankIn xs x < length xs
 unfolding rankIn select consIf isIn
 rank-below [] x h = absurd (let z : _≡_ {A = ℕ} 0 1 = cc in omega arith)
 rank-below (y ∷ ys) x h =
@@ -62,19 +62,11 @@ module _ (img records : List ℕ) (key time lockout : ℕ) where
   questions : List Question
   questions = imageQuestions img ++ scanQuestions img records key time lockout
 
-  -- a job that returns got a yes throughout
-  returned-yes : (value rank : ℕ) → settle questions value ≡ returns rank → All Yes questions × (value ≡ rank)
-  unfolding settle outcome
-  returned-yes value rank e = go (firstNo questions) refl e
-    where
-      go : (o : Option ℕ) → firstNo questions ≡ o → outcome o value ≡ returns rank → All Yes questions × (value ≡ rank)
-      go none d k = (yes-of-none questions d, cc)
-      go (some n) d k = absurd (let z : _≡_ {A = ℕ} 0 1 = cc in omega arith)
-
   opened-facts : (rank : ℕ) → All Byte img → settle questions (rankIn (keysOf img) key) ≡ returns rank → Opened img records rank
   unfolding questions scanQuestions openingsPlace
   opened-facts rank a e =
-      let (yes-all, same) = returned-yes (rankIn (keysOf img) key) rank e in
+      let (none-no, same) = yes-of-returns questions (rankIn (keysOf img) key) rank e in
+      let yes-all = yes-of-none questions none-no in
       let image = all-left Yes (imageQuestions img) _ yes-all in
       let scan-yes = all-right Yes (imageQuestions img) _ yes-all in
       let size = eqb-true (length records) (keyCount img + 1) (scan-yes .0) in

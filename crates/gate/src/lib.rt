@@ -1,8 +1,10 @@
 // The gate's scan: whether a card opens, and what is recorded.
+use query::Placed;
 ghost use mathlib.Core.Path.{_≡_};
 ghost use mathlib.Core.Bool.{true};
 ghost use Prim.Native.Nat.{_+_, _<_, _≤_};
 ghost use Rattle.format.specs.Question.{settle};
+ghost use Rattle.format.specs.Scan;
 ghost use Rattle.gate.specs.Gate.{outcomeOf, gateQuestions, gateRecords, timeRight, lockoutOver};
 
 pub enum Scanned {
@@ -68,4 +70,45 @@ fn admit(
     records[place] = time + 1;
     records[keys] = openings + 1;
     Scanned::Opened(rank)
+}
+
+// Whether the admission opens at that time, after the lockout. An opening returns its rank, records time + 1 there and adds one to the last element; a
+// refusal changes nothing.
+pub fn scan(
+    image: &[u8],
+    records: &mut [u32],
+    holder: u16,
+    slot: u16,
+    time: u32,
+    lockout: u32,
+) -> Scanned
+    ensures { λ r. ⌜ (outcomeOf r ≡ Scan.scan (now (image .entry)) (now (records .entry)) holder slot time lockout) × (now (records .exit) ≡ Scan.recordsAfterScan (now (image .entry)) (now (records .entry)) holder slot time lockout) ⌝ }
+{
+    let found = query::lookup(image, holder, slot);
+    let answer = found.answer;
+    match answer {
+        Placed::Refused(n) => {
+            return Scanned::Refused(n);
+        }
+        Placed::Absent => {
+            return admit(
+                records,
+                checker::header::key_count(image),
+                false,
+                0,
+                time,
+                lockout,
+            );
+        }
+        Placed::Listed(rank) => {
+            return admit(
+                records,
+                checker::header::key_count(image),
+                true,
+                rank,
+                time,
+                lockout,
+            );
+        }
+    }
 }
