@@ -1,8 +1,8 @@
 -- Questions 8 to 13 band after band, and the outcome of all thirteen. Assumes nothing.
-use mathlib.Core.Path.{_≡_, refl, sym, ap, ap₂, _∙_}
-use mathlib.Core.List.{List, [], map, flatMap, append-nil}
+use mathlib.Core.Path.{_≡_, refl, sym, ap, _∙_}
+use mathlib.Core.List.{List, [], flatMap, append-nil}
 use mathlib.Core.Option.{none}
-use Prim.Native.Nat.{ℕ, zero, suc, _+_, _-_, _*_, _≤_, _<_}
+use Prim.Native.Nat.{ℕ, zero, suc, _+_, _*_, _≤_, _<_}
 use native.Mathlib.Numerals.{add-one}
 use native.Mathlib.Omega.{arith}
 use borrow.Author.Tests.{eqb-true, leb-true}
@@ -14,7 +14,7 @@ use Rattle.format.specs.Answer.{check}
 use Rattle.format.proofs.Questions.{next-turn, yes-of-none}
 use Rattle.checker.specs.Refusal.{refusalOf}
 use Rattle.checker.specs.Paged.{Sized, BandAt}
-use Rattle.checker.proofs.Bands.{loop-no, total-next}
+use Rattle.checker.proofs.Bands.{loop-no, pages-more}
 use Rattle.checker.proofs.Pages.{refused-first, passed-first}
 
 -- ---- the loop over the bands
@@ -30,16 +30,6 @@ pub record Passed (img : List ℕ) (passed first : ℕ) : Type 0 where
 pub passed-start : (img : List ℕ) → Sized img → Passed img 0 1
 unfolding flatMap upTo numbersFrom firstNo pagesBefore total
 passed-start img h = record { sized = h; within = omega arith; so-far = refl; first-is = refl; few = omega arith }
-
--- the pages before the band after band n + 1
-pages-more : (img : List ℕ) (n : ℕ) → pagesBefore img (n + 1 + 1) ≡ pagesBefore img (n + 1) + pageCount img (n + 1)
-unfolding pagesBefore
-pages-more img n =
-    let e₁ : n + 1 + 1 - 1 ≡ n + 1 = omega arith in
-    let e₂ : n ≡ n + 1 - 1 = omega arith in
-    let e₃ : 1 + n ≡ n + 1 = omega arith in
-    let before : ℕ → ℕ = λ m. total (map (pageCount img) (numbersFrom 1 m)) in
-    ap before e₁ ∙ total-next (pageCount img) 1 n ∙ ap₂ _+_ (ap before e₂) (ap (pageCount img) e₃)
 
 module _ (img : List ℕ) where
   all-bands : flatMap (λ k. bandQuestions img (k + 1)) (upTo 8) ≡ flatMap (bandQuestions img) bands
@@ -62,7 +52,7 @@ module _ (img : List ℕ) where
         sized = p .sized;
         within = omega arith;
         so-far = rw (add-one passed) (next-turn (λ k. bandQuestions img (k + 1)) passed (p .so-far) (sym asked ∙ ap refusalOf z));
-        first-is = omega (arith, p .first-is, pages-more img passed);
+        first-is = omega (arith, p .first-is, pages-more img (passed + 1) (omega arith));
         few = omega (arith, p .few);
       }
 

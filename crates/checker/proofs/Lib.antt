@@ -4,3 +4,4 @@ pub mod Shapes
 pub mod Pages
 pub mod Bands
 pub mod Images
+pub mod After

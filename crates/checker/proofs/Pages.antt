@@ -1,19 +1,19 @@
 -- Questions 8 to 12 of a page asked in order. Assumes nothing.
 use mathlib.Core.Path.{_≡_, refl, sym, ap, ap₂, _∙_}
 use mathlib.Core.Bool.{_&&_}
-use mathlib.Core.List.{List, [], _++_}
+use mathlib.Core.List.{List, _++_}
 use mathlib.Core.Option.{some}
 use Prim.Native.Nat.{ℕ, zero, suc, _+_, _-_, _≤_, _<_}
 use native.Mathlib.Omega.{arith}
-use borrow.Author.Tests.{eq-eqb, ne-eqb, le-leb, lt-leb, lt-ltb, le-ltb}
+use borrow.Author.Tests.{eq-eqb, ne-eqb, le-leb, lt-leb}
 use lib.Dec.{eqb, leb}
 use lib.ListN.{drop}
-use Rattle.format.specs.Page.{firstSubtries, nodeCount, numberAt}
+use Rattle.format.specs.Page.{numberAt}
 use Rattle.format.specs.Question.{Question, firstNo}
 use Rattle.format.proofs.Questions.{after-yes, after-no}
 use Rattle.checker.specs.declared.page.Shape.{Shape}
 use Rattle.checker.specs.Refusal.{refusalOf}
-use Rattle.checker.specs.Paged.{pairsAt, levels, shapeQuestions, questionsAt, Shaped, PageAsked}
+use Rattle.checker.specs.Paged.{pairsAt, shapeQuestions, questionsAt, Shaped, PageAsked}
 use Rattle.checker.proofs.Asked.{asked-yes, asked-no}
 
 -- ---- the number of the first no
@@ -34,12 +34,12 @@ passed-first x qs rs z e = after-yes qs rs (sym (sym (ap refusalOf z) ∙ e))
 module _ (img : List ℕ) (at t b next previous : ℕ) where
   -- the page is refused, and no count is taken
   pub refused-page : {n : ℕ} (s : Shape) → some (suc n) ≡ firstNo (questionsAt img at t b next previous)
-      → (s .refusal ≡ suc n) × (s .nodes ≡ 0) × (s .links ≡ 0) × (s .first ≡ 0) → PageAsked img at t b next previous s
+      → (s .refusal ≡ suc n) × (s .nodes ≡ 0) × (s .links ≡ 0) → PageAsked img at t b next previous s
   unfolding refusalOf
   refused-page s e h = record {
     asked = ap refusalOf (h .0) ∙ e;
     counted = λ z. absurd (omega arith);
-    bounded = record { few-nodes = omega arith; few-links = omega arith; small-first = omega arith };
+    bounded = record { few-nodes = omega arith; few-links = omega arith };
   }
 
   module _ (x : ℕ) (ex : x ≡ numberAt img at) where
@@ -65,35 +65,10 @@ module _ (img : List ℕ) (at t b next previous : ℕ) where
         unfolding questionsAt
         many-roots h = sym (past-8 ∙ asked-no 9 _ _ (ap₂ _&&_ (le-leb 1 (next - t) (omega arith)) (lt-leb (next - t) 60 h)))
 
-        module _ (lo : t < next) (hi : next - t ≤ 60) (s : Shape) (shape : Shaped (pairsAt img at) (next - t) s) where
-          past-9 : firstNo (questionsAt img at t b next previous) ≡ firstNo (drop 2 (questionsAt img at t b next previous))
+        module _ (lo : t < next) (hi : next - t ≤ 60) where
+          past-9 : firstNo (questionsAt img at t b next previous) ≡ firstNo (shapeQuestions (pairsAt img at) (next - t) previous)
           unfolding questionsAt
           past-9 = past-8 ∙ asked-yes 9 _ _ (ap₂ _&&_ (le-leb 1 (next - t) (omega arith)) (le-leb (next - t) 60 hi))
 
-          pub shape-refused : (s .refusal ≡ 0 → ⊥) → PageAsked img at t b next previous s
-          unfolding questionsAt shapeQuestions
-          shape-refused h = record {
-            asked = refused-first (s .refusal) (shapeQuestions (pairsAt img at) (next - t)) _ h (shape .asked) ∙ sym past-9;
-            counted = λ z. absurd (h z);
-            bounded = shape .bounded;
-          }
-
-          module _ (fine : s .refusal ≡ 0) where
-            past-11 : firstNo (questionsAt img at t b next previous) ≡ firstNo (drop 4 (questionsAt img at t b next previous))
-            unfolding questionsAt shapeQuestions
-            past-11 = past-9 ∙ passed-first (s .refusal) (shapeQuestions (pairsAt img at) (next - t)) _ fine (shape .asked)
-
-            first-is : s .first + previous ≡ nodeCount 1 (firstSubtries 1 (levels (pairsAt img at) (next - t))) + previous
-            first-is = ap (_+ previous) (shape .counted fine .first-is)
-
-            pub not-needed : s .first + previous ≤ 240 → some 12 ≡ firstNo (questionsAt img at t b next previous)
-            unfolding questionsAt
-            not-needed h = sym (past-11 ∙ asked-no 12 _ _ (le-ltb 240 (nodeCount 1 (firstSubtries 1 (levels (pairsAt img at) (next - t))) + previous) (omega (arith, first-is))))
-
-            past-12 : 240 < s .first + previous → firstNo (questionsAt img at t b next previous) ≡ firstNo []
-            unfolding questionsAt
-            past-12 h = past-11 ∙ asked-yes 12 _ _ (lt-ltb 240 (nodeCount 1 (firstSubtries 1 (levels (pairsAt img at) (next - t))) + previous) (omega (arith, first-is)))
-
-            pub page-passed : 240 < s .first + previous → PageAsked img at t b next previous s
-            unfolding refusalOf firstNo
-            page-passed h = record { asked = ap refusalOf fine ∙ sym (past-12 h); counted = shape .counted; bounded = shape .bounded }
+          pub by-shape : (s : Shape) → Shaped (pairsAt img at) (next - t) previous s → PageAsked img at t b next previous s
+          by-shape s shape = record { asked = shape .asked ∙ sym past-9; counted = shape .counted; bounded = shape .bounded }

@@ -2,18 +2,20 @@
 use mathlib.Core.Path.{_≡_, sym, ap, ap₂, _∙_}
 use mathlib.Core.Bool.{Bool, true, false, _&&_}
 use mathlib.Core.List.{List, [], _∷_}
-use mathlib.Core.Option.{none, some}
+use mathlib.Core.Option.{some}
 use Prim.Native.Nat.{ℕ, zero, suc, _+_, _-_, _*_, _≤_, _<_}
 use native.Mathlib.Omega.{arith}
-use borrow.Author.Tests.{eq-eqb, ne-eqb, le-leb, lt-leb}
-use lib.Dec.{eqb, leb}
+use borrow.Author.Tests.{eq-eqb, ne-eqb, le-leb, lt-leb, lt-ltb, le-ltb}
+use lib.Dec.{eqb, leb, ltb}
 use lib.ListN.{length, take, drop, getD}
 use lib.Seq.{take-all}
 use Rattle.format.specs.Seq.{All, every}
 use Rattle.format.specs.Trie.{bits, onBits}
 use Rattle.format.specs.Page.{Byte, firstSubtries, nodeCount}
 use Rattle.format.specs.Question.{firstNo, isPositive, isZero}
-use Rattle.format.proofs.Lists.{all-drop}
+use Rattle.format.proofs.Lists.{all-drop, and-right, every-all}
+use Rattle.format.proofs.Bytes.{length-levelsIn, levels-shape}
+use Rattle.format.proofs.Subtries.{first-shape, length-first, page-roots}
 use Rattle.format.proofs.Counting.{marks, marks-add, marks-mono, thirdAt, fourthAt, nodes-counted, links-counted, subtrie-counted, every-flatten, flatten-levels}
 use Rattle.nodes.specs.declared.Words.{Words}
 use Rattle.nodes.specs.Words.{wordsOf, onesBefore, noneEmpty}
@@ -107,7 +109,8 @@ fourth {img} {at} {r} {w} {a} {b} t h c e =
 pub record Ended (img : List ℕ) (at r : ℕ) (w : Words) (a b c all : ℕ) : Type 0 where
   pub before : Fourth img at r w a b c
   pub fits : r + c ≤ 240
-  pub asked : none ≡ firstNo (shapeQuestions (pairsAt img at) r)
+  pub asked : (v : ℕ) → firstNo (shapeQuestions (pairsAt img at) r v) ≡ firstNo ((12, ltb 240 (nodeCount 1 (firstSubtries 1 (levels (pairsAt img at) r)) + v)) ∷ [])
+  pub positive : every (every isPositive) (levels (pairsAt img at) r) ≡ true
   pub all-is : all ≡ onBits (pairsAt img at)
   pub end-is : all ≡ marks (pairsAt img at) (r + c)
 
@@ -140,9 +143,9 @@ module _ {img : List ℕ} {at r : ℕ} {w : Words} {a b c all : ℕ} (e : Ended 
 -- ---- questions 10 and 11
 
 module _ {img : List ℕ} {at r : ℕ} {w : Words} {a b : ℕ} (t : Third img at r w a b) where
-  pub over-fourth : 240 < r + b → some 10 ≡ firstNo (shapeQuestions (pairsAt img at) r)
+  pub over-fourth : 240 < r + b → (v : ℕ) → some 10 ≡ firstNo (shapeQuestions (pairsAt img at) r v)
   unfolding shapeQuestions
-  over-fourth h =
+  over-fourth h v =
       let ps : List ℕ = pairsAt img at in
       let third-first : r ≤ thirdAt ps r = omega arith in
       let fourth-third : thirdAt ps r ≤ fourthAt ps r = omega (arith, marks-mono ps r (thirdAt ps r) third-first) in
@@ -154,9 +157,9 @@ module _ {img : List ℕ} {at r : ℕ} {w : Words} {a b c : ℕ} (f : Fourth img
   k : Known img at r w
   k = f .before .before .known
 
-  pub over-end : 240 < r + c → some 10 ≡ firstNo (shapeQuestions (pairsAt img at) r)
+  pub over-end : 240 < r + c → (v : ℕ) → some 10 ≡ firstNo (shapeQuestions (pairsAt img at) r v)
   unfolding shapeQuestions
-  over-end h = sym (asked-no 10 _ _ (ap (_&& every (every isPositive) (levels (pairsAt img at) r)) (lt-leb (nodeCount r (levels (pairsAt img at) r)) 240 (omega (arith, f .nodes-are)))))
+  over-end h v = sym (asked-no 10 _ _ (ap (_&& every (every isPositive) (levels (pairsAt img at) r)) (lt-leb (nodeCount r (levels (pairsAt img at) r)) 240 (omega (arith, f .nodes-are)))))
 
   module _ (h : r + c ≤ 240) (p : Bool) (ep : p ≡ noneEmpty (w .word) (r + c)) where
     p-is : p ≡ every isPositive (take (r + c) (pairsAt img at))
@@ -167,9 +170,9 @@ module _ {img : List ℕ} {at r : ℕ} {w : Words} {a b c : ℕ} (f : Fourth img
         ap₂ _&&_ (le-leb (nodeCount r (levels (pairsAt img at) r)) 240 (omega (arith, f .nodes-are)))
         (all-positive k ∙ ap (λ (n : ℕ). every isPositive (take n (pairsAt img at))) (sym (f .nodes-are)) ∙ sym p-is)
 
-    pub empty-found : p ≡ false → some 10 ≡ firstNo (shapeQuestions (pairsAt img at) r)
+    pub empty-found : p ≡ false → (v : ℕ) → some 10 ≡ firstNo (shapeQuestions (pairsAt img at) r v)
     unfolding shapeQuestions
-    empty-found e = sym (asked-no 10 _ _ (ten ∙ e))
+    empty-found e v = sym (asked-no 10 _ _ (ten ∙ e))
 
     module _ (yes-10 : p ≡ true) (all x : ℕ) (ea : all ≡ getD (w .before) 8 0) (ex : x ≡ onesBefore (w .word) (w .before) (r + c)) where
       all-is : all ≡ onBits (pairsAt img at)
@@ -185,33 +188,33 @@ module _ {img : List ℕ} {at r : ℕ} {w : Words} {a b c : ℕ} (f : Fourth img
           ∙ sym (rest-empty-law (pairsAt img at) (r + c))
           ∙ sym (ap₂ eqb x-is all-is)
 
-      pub rest-found : (x ≡ all → ⊥) → some 11 ≡ firstNo (shapeQuestions (pairsAt img at) r)
+      pub rest-found : (x ≡ all → ⊥) → (v : ℕ) → some 11 ≡ firstNo (shapeQuestions (pairsAt img at) r v)
       unfolding shapeQuestions
-      rest-found n = sym (asked-yes 10 _ _ (ten ∙ yes-10) ∙ asked-no 11 _ _ (eleven ∙ ne-eqb x all n))
+      rest-found n v = sym (asked-yes 10 _ _ (ten ∙ yes-10) ∙ asked-no 11 _ _ (eleven ∙ ne-eqb x all n))
 
-      both : x ≡ all → firstNo (shapeQuestions (pairsAt img at) r) ≡ firstNo []
+      both : x ≡ all → (v : ℕ) → firstNo (shapeQuestions (pairsAt img at) r v) ≡ firstNo ((12, ltb 240 (nodeCount 1 (firstSubtries 1 (levels (pairsAt img at) r)) + v)) ∷ [])
       unfolding shapeQuestions
-      both e = asked-yes 10 _ _ (ten ∙ yes-10) ∙ asked-yes 11 _ _ (eleven ∙ eq-eqb x all e)
+      both e v = asked-yes 10 _ _ (ten ∙ yes-10) ∙ asked-yes 11 _ _ (eleven ∙ eq-eqb x all e)
 
       pub ended : x ≡ all → Ended img at r w a b c all
-      unfolding firstNo
       ended e = record {
         before = f;
         fits = h;
-        asked = sym (both e);
+        asked = both e;
+        positive = and-right (leb (nodeCount r (levels (pairsAt img at) r)) 240) (every (every isPositive) (levels (pairsAt img at) r)) (ten ∙ yes-10);
         all-is = all-is;
         end-is = sym e ∙ x-is;
       }
 
--- ---- a yes at both
+-- ---- question 12, and what is counted
 
 -- what a page that is refused says
-pub refused-shape : {ps : List ℕ} {r n : ℕ} (s : Shape) → some (suc n) ≡ firstNo (shapeQuestions ps r) → (s .refusal ≡ suc n) × (s .nodes ≡ 0) × (s .links ≡ 0) × (s .first ≡ 0) → Shaped ps r s
+pub refused-shape : {ps : List ℕ} {r v n : ℕ} (s : Shape) → some (suc n) ≡ firstNo (shapeQuestions ps r v) → (s .refusal ≡ suc n) × (s .nodes ≡ 0) × (s .links ≡ 0) → Shaped ps r v s
 unfolding refusalOf
 refused-shape s e h = record {
   asked = ap refusalOf (h .0) ∙ e;
   counted = λ z. absurd (omega arith);
-  bounded = record { few-nodes = omega arith; few-links = omega arith; small-first = omega arith };
+  bounded = record { few-nodes = omega arith; few-links = omega arith };
 }
 
 module _ {img : List ℕ} {at r : ℕ} {w : Words} {a b c all : ℕ} (e : Ended img at r w a b c all) where
@@ -230,9 +233,37 @@ module _ {img : List ℕ} {at r : ℕ} {w : Words} {a b c all : ℕ} (e : Ended 
       let p : List ℕ = pairsAt img at in
       omega (arith, links-counted p r, f .is, ap (marks p) (f .before .place), e .end-is, ap (marks p) (f .nodes-are ∙ nodes-counted p r))
 
+  -- the nodes of the first subtrie
+  first : ℕ
+  first = nodeCount 1 (firstSubtries 1 (levels (pairsAt img at) r))
+
+  twelve : (v : ℕ) → 240 < first + v → firstNo (shapeQuestions (pairsAt img at) r v) ≡ firstNo []
+  unfolding first
+  twelve v h = e .asked v ∙ asked-yes 12 _ [] (lt-ltb 240 (first + v) h)
+
+  shaped : (v : ℕ) → 240 < first + v → Shaped (pairsAt img at) r v (record { refusal = 0; nodes = r + c; links = all - c })
+  unfolding refusalOf firstNo
+  shaped v h = record {
+    asked = sym (twelve v h);
+    counted = λ z. record { nodes-are = e .before .nodes-are; links-are = links-is };
+    bounded = record { few-nodes = e .fits; few-links = omega (arith, e .end-is, marks-few (e .before .before .before .known) (r + c), e .fits) };
+  }
+
+  -- it has at least four
+  pub after-full : (v : ℕ) → 236 < v → Shaped (pairsAt img at) r v (record { refusal = 0; nodes = r + c; links = all - c })
+  unfolding first
+  after-full v h =
+      let k = e .before .before .before .known in
+      let ps : List ℕ = pairsAt img at in
+      let shape = levels-shape 4 r ps (nodes-small img (k .small) at (k .fits)) (omega (arith, e .before .nodes-are, e .fits, length-nodes img (k .small) at (k .fits)))
+      (every-all (every isPositive) (levels ps r) (e .positive)) in
+      shaped v
+      (omega (arith, page-roots 1 (firstSubtries 1 (levels ps r)) (length-first 1 (levels ps r) ∙ length-levelsIn 4 r ps) (first-shape 1 r (levels ps r) (k .some-roots) shape)))
+
   module _ (f x y : ℕ) (ef : (f ≡ marks (pairsAt img at) 1) × (f ≤ 2)) (ex : (x ≡ marks (pairsAt img at) (r + f)) × (a ≤ x) × (x - a ≤ 4))
       (ey : (y ≡ marks (pairsAt img at) (r + a + (x - a))) × (b ≤ y) × (y - b ≤ 8)) where
-    first-is : 1 + f + (x - a) + (y - b) ≡ nodeCount 1 (firstSubtries 1 (levels (pairsAt img at) r))
+    first-is : 1 + f + (x - a) + (y - b) ≡ first
+    unfolding first
     first-is =
         let p : List ℕ = pairsAt img at in
         let s = e .before .before .before in
@@ -240,14 +271,9 @@ module _ {img : List ℕ} {at r : ℕ} {w : Words} {a b c all : ℕ} (e : Ended 
         sym (subtrie-counted p r (s .known .some-roots) f (x - a) (y - b) (sym (ef .0)) (omega (arith, s .is))
         (omega (arith, e .before .before .is, ap (marks p) third-is, ap (λ (n : ℕ). marks p (n + (x - a))) third-is)))
 
-    pub shaped : Shaped (pairsAt img at) r (record { refusal = 0; nodes = r + c; links = all - c; first = 1 + f + (x - a) + (y - b) })
-    unfolding refusalOf
-    shaped = record {
-      asked = e .asked;
-      counted = λ z. record { nodes-are = e .before .nodes-are; links-are = links-is; first-is = first-is };
-      bounded = record {
-        few-nodes = e .fits;
-        few-links = omega (arith, e .end-is, marks-few (e .before .before .before .known) (r + c), e .fits);
-        small-first = omega arith;
-      };
-    }
+    pub after-other : (v : ℕ) → 240 < 1 + f + (x - a) + (y - b) + v → Shaped (pairsAt img at) r v (record { refusal = 0; nodes = r + c; links = all - c })
+    after-other v h = shaped v (omega (arith, first-is))
+
+    pub not-needed : (v : ℕ) → 1 + f + (x - a) + (y - b) + v ≤ 240 → some 12 ≡ firstNo (shapeQuestions (pairsAt img at) r v)
+    unfolding first
+    not-needed v h = sym (e .asked v ∙ asked-no 12 _ [] (le-ltb 240 (first + v) (omega (arith, first-is))))

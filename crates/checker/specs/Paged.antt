@@ -21,42 +21,38 @@ pairsAt img at = flatMap pairsOf (take 60 (drop (at + 4) img))
 abbrev pub levels : List ℕ → ℕ → List (List ℕ)
 levels pairs r = levelsIn 4 r pairs
 
--- 10 and 11
-unfoldable pub shapeQuestions : List ℕ → ℕ → List Question
-shapeQuestions pairs r =
+-- 10 to 12 of a page of r roots, where the page before has so many nodes
+unfoldable pub shapeQuestions : List ℕ → ℕ → ℕ → List Question
+shapeQuestions pairs r previous =
     (10, leb (nodeCount r (levels pairs r)) 240 && every (every isPositive) (levels pairs r))
     ∷ (11, every isZero (drop (nodeCount r (levels pairs r)) pairs))
+    ∷ (12, ltb 240 (nodeCount 1 (firstSubtries 1 (levels pairs r)) + previous))
     ∷ []
 
--- 8 to 12, where the band's roots below t and its out-links below b stand before the page, next is the first root after it, and the page before has so many nodes
+-- 8 to 12, where the band's roots below t and its out-links below b stand before the page, and next is the first root after it
 unfoldable pub questionsAt : List ℕ → ℕ → ℕ → ℕ → ℕ → ℕ → List Question
-questionsAt img at t b next nodesBefore =
+questionsAt img at t b next previous =
     (8, eqb (numberAt img at) t && eqb (numberAt img (at + 2)) b)
     ∷ (9, leb 1 (next - t) && leb (next - t) 60)
-    ∷ (10, leb (nodeCount (next - t) (levels (pairsAt img at) (next - t))) 240 && every (every isPositive) (levels (pairsAt img at) (next - t)))
-    ∷ (11, every isZero (drop (nodeCount (next - t) (levels (pairsAt img at) (next - t))) (pairsAt img at)))
-    ∷ (12, ltb 240 (nodeCount 1 (firstSubtries 1 (levels (pairsAt img at) (next - t))) + nodesBefore))
-    ∷ []
+    ∷ shapeQuestions (pairsAt img at) (next - t) previous
 
--- what is counted in a page of r roots that gets a yes at 10 and 11
+-- what is counted in a page of r roots that gets a yes throughout
 pub record Counted (pairs : List ℕ) (r : ℕ) (s : Shape) : Type 0 where
   pub nodes-are : s .nodes ≡ nodeCount r (levels pairs r)
   pub links-are : s .links ≡ onBits (getD (levels pairs r) 3 [])
-  pub first-is : s .first ≡ nodeCount 1 (firstSubtries 1 (levels pairs r))
 
 -- no count is larger, whatever the answer
 pub record Bounded (s : Shape) : Type 0 where
   pub few-nodes : s .nodes ≤ 240
   pub few-links : s .links ≤ 480
-  pub small-first : s .first ≤ 15
 
-pub record Shaped (pairs : List ℕ) (r : ℕ) (s : Shape) : Type 0 where
-  pub asked : refusalOf (s .refusal) ≡ firstNo (shapeQuestions pairs r)
+pub record Shaped (pairs : List ℕ) (r previous : ℕ) (s : Shape) : Type 0 where
+  pub asked : refusalOf (s .refusal) ≡ firstNo (shapeQuestions pairs r previous)
   pub counted : s .refusal ≡ 0 → Counted pairs r s
   pub bounded : Bounded s
 
-pub record PageAsked (img : List ℕ) (at t b next nodesBefore : ℕ) (s : Shape) : Type 0 where
-  pub asked : refusalOf (s .refusal) ≡ firstNo (questionsAt img at t b next nodesBefore)
+pub record PageAsked (img : List ℕ) (at t b next previous : ℕ) (s : Shape) : Type 0 where
+  pub asked : refusalOf (s .refusal) ≡ firstNo (questionsAt img at t b next previous)
   pub counted : s .refusal ≡ 0 → Counted (pairsAt img at) (next - t) s
   pub bounded : Bounded s
 

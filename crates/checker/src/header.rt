@@ -1,11 +1,11 @@
 // The header's numbers, and questions 1 to 7. The other jobs read the header through these functions too.
 ghost use mathlib.Core.Path.{_≡_};
 ghost use mathlib.Core.List.{map};
-ghost use Prim.Native.Nat.{_+_, _-_, _*_, _≤_, _<_};
+ghost use Prim.Native.Nat.{_+_, _-_, _*_, _%_, _≤_, _<_};
 ghost use lib.ListN.{length, take, drop};
 ghost use Rattle.format.specs.Seq.{every, numbersFrom, total};
 ghost use Rattle.format.specs.Page.{numberAt};
-ghost use Rattle.format.specs.Image.{bands, keyCount, pageCount, rootCount};
+ghost use Rattle.format.specs.Image.{bands, keyCount, pageCount, pageNumber, rootCount};
 ghost use Rattle.format.specs.Question.{isZero, markRight, countsFit, headerQuestions, firstNo};
 ghost use Rattle.checker.specs.Refusal.{refusalOf, countsPositive};
 
@@ -62,17 +62,31 @@ pub fn total_pages(image: &[u8]) -> usize
         + page_count(image, 8)
 }
 
-// Whether the bytes from `from` up to `to` are zero.
+// The number in the image of the first page of band `band`, from 1 to 8.
+pub fn first_page(image: &[u8], band: usize) -> usize
+    requires { ⌜ (64 ≤ length (now image)) × (1 ≤ band) × (band ≤ 8) ⌝ }
+    ensures { λ r. ⌜ (r ≡ pageNumber (now (image .entry)) band 0) × (r ≤ 524288) ⌝ }
+{
+    let mut first = 1;
+    let mut passed = 1;
+    while passed < band {
+        first += page_count(image, passed);
+        passed += 1;
+    }
+    first
+}
+
+// Whether the bytes from `from` up to `to`, eight at a time, are zero.
 fn all_zero(bytes: &[u8], from: usize, to: usize) -> bool
-    requires { ⌜ (from ≤ to) × (to ≤ length (now bytes)) ⌝ }
+    requires { ⌜ (from ≤ to) × ((to - from) % 8 ≡ 0) × (to ≤ length (now bytes)) ⌝ }
     ensures { λ r. ⌜ r ≡ every isZero (take (to - from) (drop from (now (bytes .entry)))) ⌝ }
 {
     let mut i = from;
     while i < to {
-        if bytes[i] != 0 {
+        if nodes::word(bytes, i) != 0 {
             return false;
         }
-        i += 1;
+        i += 8;
     }
     true
 }

@@ -7,30 +7,27 @@ ghost use Prim.Native.Nat.{_+_, _-_, _≤_};
 ghost use lib.ListN.{length};
 ghost use Rattle.checker.specs.Paged.{pairsAt, Shaped, PageAsked};
 
-// What the questions of a page find: the number of the first that gets a no, 0 where none does, and then the page's nodes, its out-links and the
-// nodes of its first subtrie.
+// What the questions of a page find: the number of the first that gets a no, 0 where none does, and then the page's nodes and out-links.
 pub struct Shape {
     pub refusal: u8,
     pub nodes: usize,
     pub links: usize,
-    pub first: usize,
 }
 
 fn refused(refusal: u8) -> Shape
-    ensures { λ r. ⌜ (r .refusal ≡ refusal) × (r .nodes ≡ 0) × (r .links ≡ 0) × (r .first ≡ 0) ⌝ }
+    ensures { λ r. ⌜ (r .refusal ≡ refusal) × (r .nodes ≡ 0) × (r .links ≡ 0) ⌝ }
 {
     Shape {
         refusal,
         nodes: 0,
         links: 0,
-        first: 0,
     }
 }
 
-// Questions 10 and 11 of the page at `at` with so many roots.
-pub fn check_shape(image: &[u8], at: usize, roots: usize) -> Shape
-    requires { ⌜ (at + 64 ≤ length (now image)) × (1 ≤ roots) × (roots ≤ 60) ⌝ }
-    ensures { λ r. ⌜ Shaped (pairsAt (now (image .entry)) at) roots r ⌝ }
+// Questions 10 to 12 of the page at `at` with so many roots, after a page of `previous` nodes.
+pub fn check_shape(image: &[u8], at: usize, roots: usize, previous: usize) -> Shape
+    requires { ⌜ (at + 64 ≤ length (now image)) × (1 ≤ roots) × (roots ≤ 60) × (previous ≤ 241) ⌝ }
+    ensures { λ r. ⌜ Shaped (pairsAt (now (image .entry)) at) roots previous r ⌝ }
 {
     let words = nodes::gather(image, at);
     let second_on = nodes::on_bits_before(&words.word, &words.before, roots);
@@ -52,15 +49,22 @@ pub fn check_shape(image: &[u8], at: usize, roots: usize) -> Shape
     if nodes::on_bits_before(&words.word, &words.before, end) != all_on {
         return refused(11);
     }
-    let first2 = nodes::on_bits_before(&words.word, &words.before, 1);
-    let first3 = nodes::on_bits_before(&words.word, &words.before, roots + first2) - second_on;
-    let first4 = nodes::on_bits_before(&words.word, &words.before, third + first3) - third_on;
-    Shape {
+    let found = Shape {
         refusal: 0,
         nodes: end,
         links: all_on - fourth_on,
-        first: 1 + first2 + first3 + first4,
+    };
+    // The smallest subtrie has four nodes: after so full a page none can fit.
+    if 236 < previous {
+        return found;
     }
+    let first2 = nodes::on_bits_before(&words.word, &words.before, 1);
+    let first3 = nodes::on_bits_before(&words.word, &words.before, roots + first2) - second_on;
+    let first4 = nodes::on_bits_before(&words.word, &words.before, third + first3) - third_on;
+    if 1 + first2 + first3 + first4 + previous <= 240 {
+        return refused(12);
+    }
+    found
 }
 
 // Questions 8 to 12 of the page at `at`. Before it stand the band's roots below `t` and its out-links below `links`, `next` is the first root after it, and
@@ -89,12 +93,5 @@ pub fn check_page(
     if 60 < roots {
         return refused(9);
     }
-    let found = check_shape(image, at, roots);
-    if found.refusal != 0 {
-        return found;
-    }
-    if found.first + previous <= 240 {
-        return refused(12);
-    }
-    found
+    check_shape(image, at, roots, previous)
 }

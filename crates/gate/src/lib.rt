@@ -1,5 +1,5 @@
 // The gate's scan: whether a card opens, and what is recorded.
-use query::Placed;
+use query::Presence;
 ghost use mathlib.Core.Path.{_≡_};
 ghost use mathlib.Core.Bool.{true};
 ghost use Prim.Native.Nat.{_+_, _<_, _≤_};
@@ -87,10 +87,10 @@ pub fn scan(
     let found = query::lookup(image, holder, slot);
     let answer = found.answer;
     match answer {
-        Placed::Refused(n) => {
+        Presence::Refused(n) => {
             return Scanned::Refused(n);
         }
-        Placed::Absent => {
+        Presence::Absent => {
             return admit(
                 records,
                 checker::header::key_count(image),
@@ -100,7 +100,7 @@ pub fn scan(
                 lockout,
             );
         }
-        Placed::Listed(rank) => {
+        Presence::Listed(rank) => {
             return admit(
                 records,
                 checker::header::key_count(image),

@@ -6,8 +6,8 @@ use Prim.Native.Nat.{ℕ, zero, suc, _+_, _-_, _*_, _/_, _%_, _^_, _≤_, _<_}
 use native.Mathlib.Nat.{zero-add}
 use native.Mathlib.Omega.{arith}
 use native.Mathlib.Decide.{ℕ-discrete}
-use borrow.Author.Tests.{eq-eqb, ne-eqb, le-leb, leb-true, leb-false}
-use lib.Dec.{eqb, leb}
+use borrow.Author.Tests.{eq-eqb, ne-eqb, le-leb, ltb-true, ltb-false}
+use lib.Dec.{eqb, leb, ltb}
 use lib.ListN.{length, take, drop, replicate, length-take, length-drop, length-append}
 use lib.Seq.{take-add, take-take}
 use lib.Bits.{bitAnd, bitOr, and-block, or-block, or-lt}
@@ -118,6 +118,11 @@ ones-row k h =
 whole-used : (k : ℕ) (ds : List ℕ) → Nodes ds → length ds ≡ k → k ≤ 32 → eqb (usedNodes (val 0 ds)) (val 0 (replicate k 1)) ≡ every isPositive ds
 whole-used k ds h e l = ap₂ eqb (used-val ds h (omega arith)) (ap (λ (x : ℕ). val 0 (replicate x 1)) (sym e)) ∙ same-row 0 0 ds
 
+-- a word of 32 nodes
+full-used : (ds : List ℕ) → Nodes ds → length ds ≡ 32 → eqb (usedNodes (val 0 ds)) lowBits ≡ every isPositive ds
+unfolding val
+full-used ds h e = whole-used 32 ds h e (omega arith)
+
 -- the first k nodes of a word
 first-used : (k : ℕ) (ds : List ℕ) → Nodes ds → length ds ≡ 32 → k ≤ 32
     → eqb (usedNodes (val 0 ds / 2 ^ (64 - 2 * k))) (lowBits / 2 ^ (64 - 2 * k)) ≡ every isPositive (take k ds)
@@ -133,11 +138,10 @@ unfolding every
 every-append [] b = refl
 every-append (x ∷ a) b = ap (isPositive x &&_) (every-append a b) ∙ sym (and-assoc (isPositive x) (every isPositive a) (every isPositive b))
 
-all-used : (m n : ℕ) (qs : List ℕ) → Nodes qs → length qs ≡ 32 * m → n ≤ 32 * m → allUsed (wordsFrom (suc m) qs) n ≡ every isPositive (take n qs)
-unfolding allUsed wordsFrom val every
-all-used zero n [] h e l = let z : n ≡ 0 = omega arith in rw z
-all-used zero n (q ∷ qs) h e l = absurd (omega arith)
-all-used (suc m) n qs h e l = go (leb 32 n) refl (all-used m (n - 32) (drop 32 qs) (all-drop (λ d. d ≤ 3) 32 qs h) (omega (arith, length-drop 32 qs)))
+all-used : (m n : ℕ) (qs : List ℕ) → Nodes qs → length qs ≡ 32 * m → 1 ≤ n → n ≤ 32 * m → allUsed (wordsFrom (suc m) qs) n ≡ every isPositive (take n qs)
+unfolding allUsed wordsFrom
+all-used zero n qs h e s l = absurd (omega arith)
+all-used (suc m) n qs h e s l = go (ltb 32 n) refl (all-used m (n - 32) (drop 32 qs) (all-drop (λ d. d ≤ 3) 32 qs h) (omega (arith, length-drop 32 qs)))
   where
     small : Nodes (take 32 qs)
     small = all-take (λ d. d ≤ 3) 32 qs h
@@ -145,19 +149,19 @@ all-used (suc m) n qs h e l = go (leb 32 n) refl (all-used m (n - 32) (drop 32 q
     long : length (take 32 qs) ≡ 32
     long = omega (arith, length-take 32 qs)
 
-    go : (t : Bool) → leb 32 n ≡ t → (n - 32 ≤ 32 * m → allUsed (wordsFrom (suc m) (drop 32 qs)) (n - 32) ≡ every isPositive (take (n - 32) (drop 32 qs)))
+    go : (t : Bool) → ltb 32 n ≡ t → (1 ≤ n - 32 → n - 32 ≤ 32 * m → allUsed (wordsFrom (suc m) (drop 32 qs)) (n - 32) ≡ every isPositive (take (n - 32) (drop 32 qs)))
         → cond t (eqb (usedNodes (val 0 (take 32 qs))) lowBits && allUsed (wordsFrom (suc m) (drop 32 qs)) (n - 32))
         (eqb (usedNodes (val 0 (take 32 qs) / 2 ^ (64 - 2 * n))) (lowBits / 2 ^ (64 - 2 * n)))
         ≡ every isPositive (take n qs)
     go true t rest =
-        let big : 32 ≤ n = leb-true 32 n t in
+        let big : 32 < n = ltb-true 32 n t in
         let f : 32 + (n - 32) ≡ n = omega arith in
-        ap₂ _&&_ (whole-used 32 (take 32 qs) small long (omega arith)) (rest (omega arith))
+        ap₂ _&&_ (full-used (take 32 qs) small long) (rest (omega arith) (omega arith))
         ∙ sym (every-append (take 32 qs) (take (n - 32) (drop 32 qs)))
         ∙ ap (every isPositive) (sym (take-add 32 (n - 32) qs) ∙ ap (λ (x : ℕ). take x qs) f)
     go false t rest =
-        let low : n < 32 = leb-false 32 n t in
-        first-used n (take 32 qs) small long (omega arith) ∙ ap (every isPositive) (take-take n 32 qs (omega arith))
+        let low : n ≤ 32 = ltb-false 32 n t in
+        first-used n (take 32 qs) small long (omega arith) ∙ ap (every isPositive) (take-take n 32 qs low)
 
 -- none of the first n nodes of a page is 00
 pub none-empty-law : (bytes : List ℕ) → All Byte bytes → (at n : ℕ) → at + 64 ≤ length bytes → n ≤ 240
@@ -169,7 +173,7 @@ none-empty-law bytes small at n fits h =
     let f : n + 16 ≡ 16 + n = omega arith in
     ap (λ (ws : List ℕ). allUsed ws (n + 16)) (words-filled bytes small at fits)
     ∙ all-used 8 (n + 16) qs (all-append (λ d. d ≤ 3) (replicate 16 3) ps (nodes-same 3 16 (omega arith)) (nodes-small bytes small at fits))
-    (length-append (replicate 16 3) ps ∙ omega (arith, length-nodes bytes small at fits)) (omega arith)
+    (length-append (replicate 16 3) ps ∙ omega (arith, length-nodes bytes small at fits)) (omega arith) (omega arith)
     ∙ ap (λ (x : ℕ). every isPositive (take x qs)) f
     ∙ ap (every isPositive) (take-add 16 n qs)
     ∙ (unfold every isPositive in refl)

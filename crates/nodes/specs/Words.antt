@@ -5,7 +5,7 @@ use mathlib.Core.List.{List, [], _∷_, map}
 use Prim.Native.Nat.{ℕ, _+_, _-_, _*_, _/_, _%_, _^_}
 use lib.Bits.{bitAnd, bitOr}
 use lib.Count.{ones}
-use lib.Dec.{eqb, leb}
+use lib.Dec.{eqb, ltb}
 use lib.ListN.{getD}
 use Rattle.format.specs.Seq.{numbersFrom}
 use Rattle.nodes.specs.declared.Words.{Words}
@@ -55,11 +55,11 @@ lowBits = 0x5555_5555_5555_5555
 abbrev pub usedNodes : ℕ → ℕ
 usedNodes w = bitAnd (bitOr w (w / 2)) lowBits
 
--- whether none of the first n nodes of some words is 00
+-- whether none of the first n nodes of some words is 00, where n is at least 1
 unfoldable pub allUsed : List ℕ → ℕ → Bool
 allUsed [] n = true
 allUsed (w ∷ ws) n =
-    cond (leb 32 n) (eqb (usedNodes w) lowBits && allUsed ws (n - 32)) (eqb (usedNodes (w / 2 ^ (64 - 2 * n))) (lowBits / 2 ^ (64 - 2 * n)))
+    cond (ltb 32 n) (eqb (usedNodes w) lowBits && allUsed ws (n - 32)) (eqb (usedNodes (w / 2 ^ (64 - 2 * n))) (lowBits / 2 ^ (64 - 2 * n)))
 
 -- a page's words with the 16 places before its first node taken for nodes 11
 unfoldable pub filledUp : List ℕ → List ℕ

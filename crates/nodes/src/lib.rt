@@ -56,7 +56,7 @@ fn half(s: &[u8], at: usize) -> u64
 }
 
 // Eight bytes of `s` as one number, the first the highest.
-fn word(s: &[u8], at: usize) -> u64
+pub fn word(s: &[u8], at: usize) -> u64
     requires { ⌜ at + 8 ≤ length (now s) ⌝ }
     ensures { λ r. ⌜ r ≡ wordAt (now (s .entry)) at ⌝ }
 {
@@ -141,15 +141,33 @@ fn used_nodes(w: u64) -> u64
     (w | (w >> 1)) & 0x5555_5555_5555_5555
 }
 
+// Whether none of the nodes of words 0 to 6 is 00, nor of the first `k` of word 7: without a loop, since most pages are nearly full.
+fn none_empty_late(word: &[u64; 9], k: usize) -> bool
+    requires { ⌜ (0 < k) × (k ≤ 32) ⌝ }
+    ensures { λ r. ⌜ r ≡ noneEmpty (now (word .entry)) (208 + k) ⌝ }
+{
+    let a = used_nodes(word[0] | 0xffff_ffff_0000_0000) & used_nodes(word[1]);
+    let b = used_nodes(word[2]) & used_nodes(word[3]);
+    let c = used_nodes(word[4]) & used_nodes(word[5]);
+    if (a & b) & (c & used_nodes(word[6])) != 0x5555_5555_5555_5555 {
+        return false;
+    }
+    let shift = 64 - 2 * k;
+    used_nodes(word[7] >> shift) == 0x5555_5555_5555_5555 >> shift
+}
+
 // Whether none of the first `n` nodes is 00.
 pub fn none_empty(word: &[u64; 9], n: usize) -> bool
     requires { ⌜ n ≤ 240 ⌝ }
     ensures { λ r. ⌜ r ≡ noneEmpty (now (word .entry)) n ⌝ }
 {
+    if 208 < n {
+        return none_empty_late(word, n - 208);
+    }
     let mut left = n + 16;
     let mut j = 0;
     let mut w = word[0] | 0xffff_ffff_0000_0000;
-    while 32 <= left {
+    while 32 < left {
         if used_nodes(w) != 0x5555_5555_5555_5555 {
             return false;
         }
@@ -157,5 +175,6 @@ pub fn none_empty(word: &[u64; 9], n: usize) -> bool
         j += 1;
         w = word[j];
     }
-    used_nodes((w >> 1) >> (63 - 2 * left)) == 0x2aaa_aaaa_aaaa_aaaa >> (63 - 2 * left)
+    let shift = 64 - 2 * left;
+    used_nodes(w >> shift) == 0x5555_5555_5555_5555 >> shift
 }

@@ -12,5 +12,9 @@ pub mod Cell
 pub mod Reading
 pub mod Levels
 pub mod Subtries
-pub mod Asked
-pub mod Answers
+pub mod Between
+pub mod Places
+pub mod Ends
+pub mod Steps
+pub mod Whole
+pub mod Jobs

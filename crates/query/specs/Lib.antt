@@ -2,4 +2,5 @@ pub mod Page
 pub mod Way
 pub mod Climb
 pub mod Subtrie
-pub mod Jobs
+pub mod Walk
+pub mod Outcomes

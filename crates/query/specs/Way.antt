@@ -6,8 +6,8 @@ use Prim.Native.Nat.{ℕ, _-_, _*_, _/_, _^_, _<_}
 use lib.ListN.{length, getD, replicate}
 use Rattle.format.specs.Answer.{LookupAnswer, absent, listed, lookupAnswer}
 use Rattle.format.proofs.Levels.{prefixesAt}
-use Rattle.query.specs.declared.Placed.{Placed}
-use Rattle.query.specs.declared.Placed.the-variants.{Listed, Absent, Refused}
+use Rattle.query.specs.declared.Presence.{Presence}
+use Rattle.query.specs.declared.Presence.the-variants.{Listed, Absent, Refused}
 use Rattle.query.specs.declared.way.Way.{Way}
 use Rattle.query.specs.declared.way.Way.the-variants.{Out, Off}
 
@@ -22,7 +22,7 @@ WayRight img b key (Out link) = AtPrefix img (4 * b) (link .0) (key / 2 ^ (32 - 
 WayRight img b key Off = lookupAnswer img key ≡ absent
 
 -- lookup's answer, with the pages beside
-abbrev pub FoundRight : List ℕ → ℕ → Placed → List ℕ → Type 0
+abbrev pub FoundRight : List ℕ → ℕ → Presence → List ℕ → Type 0
 FoundRight img key (Listed rank) pages = lookupAnswer img key ≡ listed rank pages
 FoundRight img key Absent pages = (lookupAnswer img key ≡ absent) × (pages ≡ replicate 8 0)
 FoundRight img key (Refused n) pages = ⊥

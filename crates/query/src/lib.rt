@@ -1,17 +1,29 @@
-// Placed, count, listing and finding by rank. Each job asks 1 to 13 by itself first.
-ghost use mathlib.Core.Path.{_≡_};
-ghost use Rattle.format.specs.Answer;
-ghost use Rattle.query.specs.Jobs.{lookupOf, pagesKept, findOf};
-use checker::Checked;
-use format::Admission;
-
+// Lookup, count, listing and finding by rank. Each job asks 1 to 13 by itself first.
 mod climb;
 mod page;
 mod subtrie;
+mod walk;
 mod way;
 
+ghost use mathlib.Core.Path.{_≡_};
+ghost use lib.Dec.{ltb};
+ghost use lib.ListN.{length, replicate};
+ghost use Rattle.format.specs.Answer;
+ghost use Rattle.format.specs.Exact.{Accepted};
+ghost use Rattle.format.specs.Image.{keyCount};
+ghost use Rattle.query.specs.Outcomes.{lookupOutcome, NoPages, membersOutcome, findOutcome};
+use checker::Checked;
+use climb::key_at;
+use format::Admission;
+use format::Rectangle;
+use walk::count_members;
+use walk::list_members;
+use way::path;
+use zorder::unweave;
+use zorder::weave;
+
 // What lookup of a holder and a slot finds.
-pub enum Placed {
+pub enum Presence {
     // The rank; the page numbers stand beside.
     Listed(u32),
     Absent,
@@ -21,48 +33,115 @@ pub enum Placed {
 
 // What lookup finds, and the eight page numbers on the key's path: all 0 unless the key is listed.
 pub struct Found {
-    pub answer: Placed,
+    pub answer: Presence,
     pub pages: [u32; 8],
 }
 
-// The rank and the page numbers of a holder and a slot.
+// How many members a rectangle has.
+pub enum Members {
+    Count(usize),
+    Refused(u8),
+}
+
+// The admission of a rank.
+pub enum ByRank {
+    At(Admission),
+    Refused(u8),
+}
+
+// An answer without page numbers.
+fn no_pages(answer: Presence) -> Found
+    ensures { λ r. ⌜ (r .answer ≡ answer) × (r .pages ≡ replicate 8 0) ⌝ }
+{
+    Found {
+        answer,
+        pages: [0u32; 8],
+    }
+}
+
+// Looks a holder and a slot up: the rank and the eight page numbers on the key's path, or absent.
 pub fn lookup(image: &[u8], holder: u16, slot: u16) -> Found
-    ensures { λ r. ⌜ (lookupOf (r .answer) (r .pages) ≡ Answer.lookup (now (image .entry)) holder slot) × (pagesKept (r .answer) (r .pages)) ⌝ }
+    ensures { λ r. ⌜ (lookupOutcome (r .answer) (r .pages) ≡ Answer.lookup (now (image .entry)) holder slot) × (NoPages (r .answer) (r .pages)) ⌝ }
 {
     match checker::check(image) {
-        Checked::Refused(n) => Found {
-            answer: Placed::Refused(n),
-            pages: [0u32; 8],
-        },
+        Checked::Refused(n) => no_pages(Presence::Refused(n)),
         Checked::Accepted(keys) => {
             if keys == 0 {
-                return Found {
-                    answer: Placed::Absent,
-                    pages: [0u32; 8],
-                };
+                return no_pages(Presence::Absent);
             }
-            way::path(image, zorder::weave(holder, slot))
+            path(image, weave(holder, slot))
         }
     }
 }
 
-// What finding by rank finds.
-pub enum ByRank {
-    Found(Admission),
-    Refused(u8),
+// Whether each low of a rectangle is at most its high.
+fn in_order(rectangle: Rectangle) -> bool
+    ensures { λ r. ⌜ r ≡ Answer.rectangleQuestion rectangle .1 ⌝ }
+{
+    let holders = rectangle.holders;
+    if holders.high < holders.low {
+        return false;
+    }
+    let slots = rectangle.slots;
+    slots.low <= slots.high
 }
 
-// The holder and the slot of a rank.
+// Counts the members of a rectangle.
+pub fn count(image: &[u8], rectangle: Rectangle) -> Members
+    ensures { λ r. ⌜ membersOutcome r ≡ Answer.count (now (image .entry)) rectangle ⌝ }
+{
+    match checker::check(image) {
+        Checked::Refused(n) => Members::Refused(n),
+        Checked::Accepted(_) => {
+            if !in_order(rectangle) {
+                return Members::Refused(18);
+            }
+            Members::Count(count_members(image, rectangle))
+        }
+    }
+}
+
+// Whether a buffer of `places` places lacks one for a member. One with a place for every key of the image, `all`, needs no count.
+fn is_short(image: &[u8], rectangle: Rectangle, all: usize, places: usize) -> bool
+    requires { ⌜ (Accepted (now image)) × (all ≡ keyCount (now image)) ⌝ }
+    ensures { λ r. ⌜ r ≡ ltb places (length (Answer.memberKeys (now (image .entry)) rectangle)) ⌝ }
+{
+    if all <= places {
+        return false;
+    }
+    places < count_members(image, rectangle)
+}
+
+// Lists the members of a rectangle: their keys, ascending, in as many first places.
+pub fn list(image: &[u8], rectangle: Rectangle, keys: &mut [u32]) -> Members
+    ensures { λ r. ⌜ (membersOutcome r ≡ Answer.listing (now (image .entry)) rectangle (now (keys .entry))) × (now (keys .exit) ≡ Answer.bufferAfterListing (now (image .entry)) rectangle (now (keys .entry))) ⌝ }
+{
+    match checker::check(image) {
+        Checked::Refused(n) => Members::Refused(n),
+        Checked::Accepted(all) => {
+            if !in_order(rectangle) {
+                return Members::Refused(18);
+            }
+            if is_short(image, rectangle, all, keys.len()) {
+                return Members::Refused(19);
+            }
+            Members::Count(list_members(image, rectangle, keys))
+        }
+    }
+}
+
+// Finds the admission of a rank.
 pub fn find(image: &[u8], rank: u32) -> ByRank
-    ensures { λ r. ⌜ findOf r ≡ Answer.find (now (image .entry)) rank ⌝ }
+    ensures { λ r. ⌜ findOutcome r ≡ Answer.find (now (image .entry)) rank ⌝ }
 {
     match checker::check(image) {
         Checked::Refused(n) => ByRank::Refused(n),
         Checked::Accepted(keys) => {
-            if keys <= rank as usize {
+            let wide = rank as usize;
+            if keys <= wide {
                 return ByRank::Refused(20);
             }
-            ByRank::Found(zorder::unweave(climb::key_at(image, rank as usize)))
+            ByRank::At(unweave(key_at(image, wide)))
         }
     }
 }

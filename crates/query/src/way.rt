@@ -6,7 +6,7 @@ ghost use Rattle.format.proofs.Lookup.{keyBit};
 ghost use Rattle.query.specs.Page.{Ready, PageRead, childIn};
 ghost use Rattle.query.specs.Way.{AtPrefix, WayRight, FoundRight};
 use crate::Found;
-use crate::Placed;
+use crate::Presence;
 use crate::page::Page;
 use crate::page::band_at;
 use crate::page::page_of_root;
@@ -34,10 +34,10 @@ fn key_bit(key: u32, level: usize) -> usize
 pub fn bit_of(node: u64, side: usize) -> u64
     ensures { λ r. ⌜ r ≡ bit side node ⌝ }
 {
-    if side == 0 {
-        return node / 2;
+    if 0 < side {
+        return node % 2;
     }
-    node % 2
+    node / 2
 }
 
 // The place of the child that the bit of this side of the node at a place leads to: the roots, and the on bits before that bit.
@@ -93,7 +93,7 @@ pub fn path(image: &[u8], key: u32) -> Found
         let way = follow(image, page, root, key);
         let Way::Out(next) = way else {
             return Found {
-                answer: Placed::Absent,
+                answer: Presence::Absent,
                 pages: [0u32; 8],
             };
         };
@@ -103,7 +103,7 @@ pub fn path(image: &[u8], key: u32) -> Found
         number += 1;
     }
     Found {
-        answer: Placed::Listed(link.0 as u32),
+        answer: Presence::Listed(link.0 as u32),
         pages,
     }
 }

@@ -1,39 +1,53 @@
 -- `query::find` meets its contract. Assumes nothing.
+use mathlib.Core.Path.{sym, _∙_}
 use native.Mathlib.Omega.{arith}
 use borrow.Author.Needs.{needs}
-use Rattle.query.proofs.Asked.{bytes-of, ready, returned-count, was-accepted, was-refused}
-use Rattle.query.proofs.Answers.{find-found, find-none, find-refused}
+use Rattle.checker.proofs.After.{returned-count, accepted-image}
+use Rattle.nodes.proofs.Numbers.{bytes-of}
+use Rattle.query.specs.Outcomes.{findOutcome}
+use Rattle.query.proofs.Jobs.{answer-refused, answer-accepted, find-refused, find-past, find-done}
+use Rattle.query.proofs.Whole.{ready-of}
 use Rattle.query.proofs.find.Statement.{statement}
 use Rattle.query.proofs.find.Tie as tie
 
 returns : tie.Need-returns
+unfolding findOutcome
 returns c =
-    let k = c .before .before .before .before in
-    let s = k .before .before in
-    find-none (s .args .image .now) (s .args .rank) _ (was-accepted _ (k .check .result) (k .check .ensures) _ (c .before .before .keys .given .1)) (c .if1 .taken)
+    let k = c .before .before in
+    let q = k .before .before in
+    find-past (q .before .before .args .image .now) _ _ (answer-accepted _ _ (q .check .ensures) (k .keys .given .1)) (c .if1 .taken)
 
 key-at-requires : tie.Need-key-at-requires
 key-at-requires c κs =
-    let k = c .before .before .before .before in
-    let s = k .before .before in
-    let e = was-accepted (s .args .image .now) (k .check .result) (k .check .ensures) _ (c .before .before .keys .given .1) in (
-      ready (s .args .image .now) _ (bytes-of (s .args .image .now) (λ i. k .before .shared-slice-known .given i .fits)) e (λ z. omega arith),
-      omega (arith, returned-count (s .args .image .now) _ e),
-    )
+    let k = c .before .before in
+    let q = k .before .before in
+    let img = q .before .before .args .image .now in
+    let e = answer-accepted img _ (q .check .ensures) (k .keys .given .1) in
+    let n = returned-count img _ e in
+    (ready-of (accepted-image img _ e (bytes-of img (λ i. q .before .shared-slice-known .given i .fits))) (λ z. omega (arith, c .if1 .left)), omega (arith, c .if1 .left))
 
 returns-2 : tie.Need-returns-2
+unfolding findOutcome
 returns-2 c =
-    let k = c .before .before .before in
-    let s = k .before .before in
-    find-refused (s .args .image .now) (s .args .rank) _ (was-refused _ (k .check .result) (k .check .ensures) _ (c .before .n .given .1))
+    let q = c .before .before .before in
+    find-refused (q .before .before .args .image .now) _ _ (answer-refused _ _ (q .check .ensures) (c .before .n .given .1))
 
 returns-3 : tie.Need-returns-3
+unfolding findOutcome
 returns-3 c =
-    let k = c .before .before .before .before .before .before in
-    let s = k .before .before in
-    find-found (s .args .image .now) (s .args .rank) _ (c .before .key-at .result) _ _ (bytes-of (s .args .image .now) (λ i. k .before .shared-slice-known .given i .fits))
-    (was-accepted _ (k .check .result) (k .check .ensures) _ (c .before .before .before .before .keys .given .1)) (omega arith) (c .before .key-at .ensures)
-    (c .unweave .ensures .0) (c .unweave .ensures .1)
+    let k = c .before .before .before .before in
+    let q = k .before .before in
+    find-done (q .before .before .args .image .now) _ _ (answer-accepted _ _ (q .check .ensures) (k .keys .given .1)) (c .before .before .if1 .left) (c .before .key-at .ensures) (c .unweave .ensures .0) (c .unweave .ensures .1)
 
 pub find-spec : {M : Type 1} → statement M
-find-spec = tie.close (tie.spec (λ c κs. search needs) (λ c. search needs) (λ c. search needs) returns key-at-requires (λ c κs. search needs) returns-2 returns-3)
+find-spec =
+    tie.close
+    (tie.spec
+    (λ c κs. search needs)
+    (λ c. search needs)
+    (λ c. search needs)
+    returns
+    key-at-requires
+    (λ c κs. search needs)
+    returns-2
+    returns-3)

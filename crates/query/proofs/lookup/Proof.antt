@@ -1,39 +1,52 @@
 -- `query::lookup` meets its contract. Assumes nothing.
-use mathlib.Core.Path.{refl}
+use mathlib.Core.Path.{refl, sym, _∙_}
+use native.Mathlib.Omega.{arith}
 use borrow.Author.Needs.{needs}
-use Rattle.query.proofs.Asked.{bytes-of, ready, was-accepted, was-refused}
-use Rattle.query.proofs.Answers.{lookup-empty, lookup-found, lookup-refused}
+use Rattle.checker.proofs.After.{returned-count, accepted-image}
+use Rattle.nodes.proofs.Numbers.{bytes-of}
+use Rattle.query.proofs.Jobs.{answer-refused, answer-accepted, lookup-no, lookup-none, lookup-done}
+use Rattle.query.proofs.Whole.{ready-of}
 use Rattle.query.proofs.lookup.Statement.{statement}
 use Rattle.query.proofs.lookup.Tie as tie
 
 returns : tie.Need-returns
 returns c =
-    let k = c .before .before .before .before in
-    let s = k .before .before in (
-      lookup-empty (s .args .image .now) (s .args .holder) (s .args .slot) _ (bytes-of (s .args .image .now) (λ i. k .before .shared-slice-known .given i .fits))
-          (was-accepted _ (k .check .result) (k .check .ensures) _ (c .before .before .keys .given .1)) (c .if1 .taken),
-      refl,
-    )
+    let k = c .before .before .before in
+    let q = k .before .before in
+    let img = q .before .before .args .image .now in
+    lookup-none img _ _ _ _ _ (answer-accepted img _ (q .check .ensures) (k .keys .given .1)) (bytes-of img (λ i. q .before .shared-slice-known .given i .fits)) (c .before .if1 .taken) (c .no-pages2 .ensures .0) (c .no-pages2 .ensures .1)
 
 path-requires : tie.Need-path-requires
 path-requires c κs =
-    let k = c .before .before .before .before .before in
-    let s = k .before .before in
-    ready (s .args .image .now) _ (bytes-of (s .args .image .now) (λ i. k .before .shared-slice-known .given i .fits))
-    (was-accepted _ (k .check .result) (k .check .ensures) _ (c .before .before .before .keys .given .1)) (c .before .if1 .left)
+    let k = c .before .before .before in
+    let q = k .before .before in
+    let img = q .before .before .args .image .now in
+    let e = answer-accepted img _ (q .check .ensures) (k .keys .given .1) in
+    ready-of (accepted-image img _ e (bytes-of img (λ i. q .before .shared-slice-known .given i .fits))) (λ z. c .before .if1 .left (returned-count img _ e ∙ z))
 
 returns-2 : tie.Need-returns-2
 returns-2 c =
-    let k = c .before .before .before in
-    let s = k .before .before in
-    (lookup-refused (s .args .image .now) (s .args .holder) (s .args .slot) _ (was-refused _ (k .check .result) (k .check .ensures) _ (c .before .n .given .1)), refl)
+    let m = c .before .before in
+    let q = m .before .before in
+    lookup-no (q .before .before .args .image .now) _ _ _ _ _ (answer-refused _ _ (q .check .ensures) (m .n .given .1)) (c .no-pages .ensures .0) (c .no-pages .ensures .1)
 
 returns-3 : tie.Need-returns-3
 returns-3 c =
-    let k = c .before .before .before .before .before .before in
-    let s = k .before .before in
-    lookup-found (s .args .image .now) (s .args .holder) (s .args .slot) (c .before .weave .result) _ (c .path .result .answer) (c .path .result .pages)
-    (was-accepted _ (k .check .result) (k .check .ensures) _ (c .before .before .before .before .keys .given .1)) (c .before .weave .ensures) (c .path .ensures)
+    let k = c .before .before .before .before in
+    let q = k .before .before in
+    lookup-done (q .before .before .args .image .now) _ _ _ _ _ (answer-accepted _ _ (q .check .ensures) (k .keys .given .1)) (c .before .weave .ensures) (c .path .ensures)
 
 pub lookup-spec : {M : Type 1} → statement M
-lookup-spec = tie.close (tie.spec (λ c κs. search needs) (λ c. search needs) (λ c. search needs) returns (λ c κs. search needs) path-requires returns-2 returns-3)
+lookup-spec =
+    tie.close
+    (tie.spec
+    (λ c κs. search needs)
+    (λ c. search needs)
+    (λ c κs. search needs)
+    (λ c. search needs)
+    (λ c κs. search needs)
+    returns
+    (λ c κs. search needs)
+    path-requires
+    returns-2
+    returns-3)

@@ -16,13 +16,13 @@ loop-holds : tie.Need-loop-holds Inv-loop μ-loop
 loop-holds c = passed-start _ (c .before .pre)
 
 band-refusal-requires : tie.Need-band-refusal-requires Inv-loop μ-loop
-band-refusal-requires c κs = band-at _ (c .before .loop .inv) (c .loop-test .taken)
+band-refusal-requires c κs = band-at _ (c .before .loop .inv) (omega arith)
 
 returns : tie.Need-returns Inv-loop μ-loop
-returns c = passed-no _ (c .before .before .before .loop .inv) (c .before .before .loop-test .taken) _ (c .before .band-refusal .ensures) (c .if1 .taken)
+returns c = passed-no _ (c .before .before .before .loop .inv) (omega arith) _ (c .before .band-refusal .ensures) (c .if1 .taken)
 
 loop-again : tie.Need-loop-again Inv-loop μ-loop
-loop-again c = passed-next _ (c .before .before .before .before .loop .inv) (c .before .before .before .loop-test .taken) _ (c .before .before .band-refusal .ensures) (c .before .if1 .left) _ (c .page-count .ensures .0) (c .page-count .ensures .1)
+loop-again c = passed-next _ (c .before .before .before .before .loop .inv) (omega arith) _ (c .before .before .band-refusal .ensures) (c .before .if1 .left) _ (c .page-count .ensures .0) (c .page-count .ensures .1)
 
 returns-2 : tie.Need-returns-2 Inv-loop μ-loop
 returns-2 c = passed-end _ (c .before .loop .inv) (c .loop-test .left)

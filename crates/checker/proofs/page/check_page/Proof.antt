@@ -1,5 +1,5 @@
 -- `checker::page::check_page` meets its contract: at each return the questions before got a yes. Assumes nothing.
-use Rattle.checker.proofs.Pages.{refused-page, wrong-t, wrong-b, no-roots, many-roots, shape-refused, not-needed, page-passed}
+use Rattle.checker.proofs.Pages.{refused-page, wrong-t, wrong-b, no-roots, many-roots, by-shape}
 use borrow.Author.Needs.{needs}
 use Rattle.checker.proofs.page.check_page.Statement.{statement}
 use Rattle.checker.proofs.page.check_page.Tie as tie
@@ -17,15 +17,7 @@ returns-4 : tie.Need-returns-4
 returns-4 c = refused-page _ _ _ _ _ _ _ (many-roots _ _ _ _ _ _ _ (c .before .before .before .before .before .before .before .before .before .before .before .before .number .ensures .0) (c .before .before .before .before .before .before .before .before .before .before .if1 .left) _ (c .before .before .before .before .before .before .before .before .before .number2 .ensures .0) (c .before .before .before .before .before .before .before .if2 .left) (c .before .if4 .taken)) (c .refused4 .ensures)
 
 returns-5 : tie.Need-returns-5
-returns-5 c = shape-refused _ _ _ _ _ _ _ (c .before .before .before .before .before .before .before .before .before .before .before .before .before .before .number .ensures .0) (c .before .before .before .before .before .before .before .before .before .before .before .before .if1 .left) _ (c .before .before .before .before .before .before .before .before .before .before .before .number2 .ensures .0) (c .before .before .before .before .before .before .before .before .before .if2 .left) (c .before .before .before .before .before .before .if3 .left) (c .before .before .before .if4 .left) _ (c .before .before .check-shape .ensures) (c .if5 .taken)
-
-returns-6 : tie.Need-returns-6
-returns-6 c =
-    refused-page _ _ _ _ _ _ _
-    (not-needed _ _ _ _ _ _ _ (c .before .before .before .before .before .before .before .before .before .before .before .before .before .before .before .before .before .number .ensures .0) (c .before .before .before .before .before .before .before .before .before .before .before .before .before .before .before .if1 .left) _ (c .before .before .before .before .before .before .before .before .before .before .before .before .before .before .number2 .ensures .0) (c .before .before .before .before .before .before .before .before .before .before .before .before .if2 .left) (c .before .before .before .before .before .before .before .before .before .if3 .left) (c .before .before .before .before .before .before .if4 .left) _ (c .before .before .before .before .before .check-shape .ensures) (c .before .before .before .if5 .left) (c .before .if6 .taken)) (c .refused5 .ensures)
-
-returns-7 : tie.Need-returns-7
-returns-7 c = page-passed _ _ _ _ _ _ _ (c .before .before .before .before .before .before .before .before .before .before .before .before .before .before .before .before .number .ensures .0) (c .before .before .before .before .before .before .before .before .before .before .before .before .before .before .if1 .left) _ (c .before .before .before .before .before .before .before .before .before .before .before .before .before .number2 .ensures .0) (c .before .before .before .before .before .before .before .before .before .before .before .if2 .left) (c .before .before .before .before .before .before .before .before .if3 .left) (c .before .before .before .before .before .if4 .left) _ (c .before .before .before .before .check-shape .ensures) (c .before .before .if5 .left) (c .if6 .left)
+returns-5 c = by-shape _ _ _ _ _ _ _ (c .before .before .before .before .before .before .before .before .before .before .before .before .number .ensures .0) (c .before .before .before .before .before .before .before .before .before .before .if1 .left) _ (c .before .before .before .before .before .before .before .before .before .number2 .ensures .0) (c .before .before .before .before .before .before .before .if2 .left) (c .before .before .before .before .if3 .left) (c .before .if4 .left) _ (c .check-shape .ensures)
 
 pub check-page-spec : {M : Type 1} → statement M
 check-page-spec =
@@ -44,8 +36,4 @@ check-page-spec =
     (λ c κs. search needs)
     returns-4
     (λ c κs. search needs)
-    returns-5
-    (λ c. search needs)
-    (λ c κs. search needs)
-    returns-6
-    returns-7)
+    returns-5)

@@ -9,7 +9,7 @@ use Rattle.format.proofs.Counting.{marks}
 use Rattle.nodes.specs.declared.Words.{Words}
 use Rattle.nodes.proofs.Numbers.{bytes-of}
 use Rattle.checker.specs.Paged.{pairsAt}
-use Rattle.checker.proofs.Shapes.{Known, Second, Third, Fourth, Ended, second, third, fourth, ended, first-second, first-third, first-fourth, over-fourth, over-end, empty-found, rest-found, refused-shape, links-few, shaped}
+use Rattle.checker.proofs.Shapes.{Known, Second, Third, Fourth, Ended, second, third, fourth, ended, first-second, first-third, first-fourth, over-fourth, over-end, empty-found, rest-found, refused-shape, links-few, after-full, after-other, not-needed}
 use borrow.Author.Needs.{needs}
 use Rattle.checker.proofs.page.check_shape.Statement.{statement}
 use Rattle.checker.proofs.page.check_shape.Tie as tie
@@ -78,62 +78,68 @@ ended-known c =
     ended (fourth-known (g₄ c)) (c .before .before .before .before .before .before .before .before .before .before .before .before .if2 .left) _ (c .before .before .before .before .before .before .before .before .before .none-empty .ensures) (not-false _ (c .before .before .before .before .before .before .before .before .if3 .left)) (a₄ c) _ (c .before .before .before .before .before .on-bits .ensures .0)
     (c .before .on-bits-before4 .ensures .0) (c .if4 .left)
 
+-- the first subtrie
 abbrev f₂ : tie.After-on-bits-before5 → ℕ
 f₂ c = c .on-bits-before5 .result
 
-first-second-known : (c : tie.After-on-bits-before5) → (f₂ c ≡ marks (pairsAt (bytes (g₁ (g₂ (g₃ (g₄ (c .before .before .before .before)))))) (place (g₁ (g₂ (g₃ (g₄ (c .before .before .before .before))))))) 1) × (f₂ c ≤ 2)
-first-second-known c = first-second (ended-known (c .before .before .before .before)) (f₂ c) (c .on-bits-before5 .ensures .0)
+first-second-known : (c : tie.After-on-bits-before5) → (f₂ c ≡ marks (pairsAt (bytes (g₁ (g₂ (g₃ (g₄ (c .before .before .before .before .before)))))) (place (g₁ (g₂ (g₃ (g₄ (c .before .before .before .before .before))))))) 1) × (f₂ c ≤ 2)
+first-second-known c = first-second (ended-known (c .before .before .before .before .before)) (f₂ c) (c .on-bits-before5 .ensures .0)
 
 abbrev x₃ : tie.After-on-bits-before6 → ℕ
 x₃ c = c .on-bits-before6 .result
 
 first-third-known : (c : tie.After-on-bits-before6)
-    → (x₃ c ≡ marks (pairsAt (bytes (g₁ (g₂ (g₃ (g₄ (c .before .before .before .before .before .before .before .before)))))) (place (g₁ (g₂ (g₃ (g₄ (c .before .before .before .before .before .before .before .before))))))) (roots (g₁ (g₂ (g₃ (g₄ (c .before .before .before .before .before .before .before .before))))) + f₂ (c .before .before .before .before)))
-    × (a₁ (g₂ (g₃ (g₄ (c .before .before .before .before .before .before .before .before)))) ≤ x₃ c) × (x₃ c - a₁ (g₂ (g₃ (g₄ (c .before .before .before .before .before .before .before .before)))) ≤ 4)
-first-third-known c = first-third (ended-known (c .before .before .before .before .before .before .before .before)) (f₂ (c .before .before .before .before)) (x₃ c) (first-second-known (c .before .before .before .before) .1) (c .on-bits-before6 .ensures .0)
+    → (x₃ c ≡ marks (pairsAt (bytes (g₁ (g₂ (g₃ (g₄ (c .before .before .before .before .before .before .before .before .before)))))) (place (g₁ (g₂ (g₃ (g₄ (c .before .before .before .before .before .before .before .before .before))))))) (roots (g₁ (g₂ (g₃ (g₄ (c .before .before .before .before .before .before .before .before .before))))) + f₂ (c .before .before .before .before))) × (a₁ (g₂ (g₃ (g₄ (c .before .before .before .before .before .before .before .before .before)))) ≤ x₃ c) × (x₃ c - a₁ (g₂ (g₃ (g₄ (c .before .before .before .before .before .before .before .before .before)))) ≤ 4)
+first-third-known c = first-third (ended-known (c .before .before .before .before .before .before .before .before .before)) (f₂ (c .before .before .before .before)) (x₃ c) (first-second-known (c .before .before .before .before) .1) (c .on-bits-before6 .ensures .0)
 
 abbrev x₄ : tie.After-on-bits-before7 → ℕ
 x₄ c = c .on-bits-before7 .result
 
 first-fourth-known : (c : tie.After-on-bits-before7)
-    → (x₄ c ≡ marks (pairsAt (bytes (g₁ (g₂ (g₃ (g₄ (c .before .before .before .before .before .before .before .before .before .before .before .before)))))) (place (g₁ (g₂ (g₃ (g₄ (c .before .before .before .before .before .before .before .before .before .before .before .before))))))) (roots (g₁ (g₂ (g₃ (g₄ (c .before .before .before .before .before .before .before .before .before .before .before .before))))) + a₁ (g₂ (g₃ (g₄ (c .before .before .before .before .before .before .before .before .before .before .before .before)))) + (x₃ (c .before .before .before .before) - a₁ (g₂ (g₃ (g₄ (c .before .before .before .before .before .before .before .before .before .before .before .before))))))) × (a₂ (g₃ (g₄ (c .before .before .before .before .before .before .before .before .before .before .before .before))) ≤ x₄ c) × (x₄ c - a₂ (g₃ (g₄ (c .before .before .before .before .before .before .before .before .before .before .before .before))) ≤ 8)
-first-fourth-known c = first-fourth (ended-known (c .before .before .before .before .before .before .before .before .before .before .before .before)) (x₃ (c .before .before .before .before) - a₁ (g₂ (g₃ (g₄ (c .before .before .before .before .before .before .before .before .before .before .before .before))))) (x₄ c) (first-third-known (c .before .before .before .before) .2) (c .on-bits-before7 .ensures .0)
+    → (x₄ c ≡ marks (pairsAt (bytes (g₁ (g₂ (g₃ (g₄ (c .before .before .before .before .before .before .before .before .before .before .before .before .before)))))) (place (g₁ (g₂ (g₃ (g₄ (c .before .before .before .before .before .before .before .before .before .before .before .before .before))))))) (roots (g₁ (g₂ (g₃ (g₄ (c .before .before .before .before .before .before .before .before .before .before .before .before .before))))) + a₁ (g₂ (g₃ (g₄ (c .before .before .before .before .before .before .before .before .before .before .before .before .before)))) + (x₃ (c .before .before .before .before) - a₁ (g₂ (g₃ (g₄ (c .before .before .before .before .before .before .before .before .before .before .before .before .before))))))) × (a₂ (g₃ (g₄ (c .before .before .before .before .before .before .before .before .before .before .before .before .before))) ≤ x₄ c) × (x₄ c - a₂ (g₃ (g₄ (c .before .before .before .before .before .before .before .before .before .before .before .before .before))) ≤ 8)
+first-fourth-known c = first-fourth (ended-known (c .before .before .before .before .before .before .before .before .before .before .before .before .before)) (x₃ (c .before .before .before .before) - a₁ (g₂ (g₃ (g₄ (c .before .before .before .before .before .before .before .before .before .before .before .before .before))))) (x₄ c) (first-third-known (c .before .before .before .before) .2) (c .on-bits-before7 .ensures .0)
 
 on-bits-before-requires-2 : tie.Need-on-bits-before-requires-2
 on-bits-before-requires-2 c κs = omega (arith, second-known (c .before .before .before))
 
 returns : tie.Need-returns
-returns c = refused-shape _ (over-fourth (third-known (c .before .before)) (c .before .if1 .taken)) (c .refused .ensures)
+returns c = refused-shape _ (over-fourth (third-known (c .before .before)) (c .before .if1 .taken) _) (c .refused .ensures)
 
 returns-2 : tie.Need-returns-2
-returns-2 c = refused-shape _ (over-end (fourth-known (c .before .before)) (c .before .if2 .taken)) (c .refused2 .ensures)
+returns-2 c = refused-shape _ (over-end (fourth-known (c .before .before)) (c .before .if2 .taken) _) (c .refused2 .ensures)
 
 returns-3 : tie.Need-returns-3
-returns-3 c = refused-shape _ (empty-found (fourth-known (c .before .before .before .before .before .before)) (c .before .before .before .before .before .if2 .left) _ (c .before .before .none-empty .ensures) (not-true _ (c .before .if3 .taken))) (c .refused3 .ensures)
+returns-3 c = refused-shape _ (empty-found (fourth-known (c .before .before .before .before .before .before)) (c .before .before .before .before .before .if2 .left) _ (c .before .before .none-empty .ensures) (not-true _ (c .before .if3 .taken)) _) (c .refused3 .ensures)
 
 returns-4 : tie.Need-returns-4
-returns-4 c = refused-shape _ (rest-found (fourth-known (c .before .before .before .before .before .before .before .before .before .before .before .before .before .before)) (c .before .before .before .before .before .before .before .before .before .before .before .before .before .if2 .left) _ (c .before .before .before .before .before .before .before .before .before .before .none-empty .ensures) (not-false _ (c .before .before .before .before .before .before .before .before .before .if3 .left)) _ _ (c .before .before .before .before .before .before .on-bits .ensures .0) (c .before .before .on-bits-before4 .ensures .0) (c .before .if4 .taken)) (c .refused4 .ensures)
-
-on-bits-before-requires-6 : tie.Need-on-bits-before-requires-6
-on-bits-before-requires-6 c κs = omega (arith, first-second-known (c .before .before .before), second-known (g₂ (g₃ (g₄ (c .before .before .before .before .before .before .before)))))
+returns-4 c = refused-shape _ (rest-found (fourth-known (c .before .before .before .before .before .before .before .before .before .before .before .before .before .before)) (c .before .before .before .before .before .before .before .before .before .before .before .before .before .if2 .left) _ (c .before .before .before .before .before .before .before .before .before .before .none-empty .ensures) (not-false _ (c .before .before .before .before .before .before .before .before .before .if3 .left)) _ _ (c .before .before .before .before .before .before .on-bits .ensures .0) (c .before .before .on-bits-before4 .ensures .0) (c .before .if4 .taken) _) (c .refused4 .ensures)
 
 sub-first3 : tie.Need-sub-first3
-sub-first3 c = omega (arith, first-third-known c)
+sub-first3 c = links-few (ended-known c)
+
+returns-5 : tie.Need-returns-5
+returns-5 c = after-full (ended-known (c .before)) _ (c .if5 .taken)
+
+on-bits-before-requires-6 : tie.Need-on-bits-before-requires-6
+on-bits-before-requires-6 c κs = omega (arith, first-second-known (c .before .before .before), second-known (g₂ (g₃ (g₄ (c .before .before .before .before .before .before .before .before)))))
+
+sub-first3-2 : tie.Need-sub-first3-2
+sub-first3-2 c = first-third-known c .1
 
 add-on-bits-before-2 : tie.Need-add-on-bits-before-2
-add-on-bits-before-2 c = omega (arith, first-third-known (c .before .before .before), second-known (g₂ (g₃ (g₄ (c .before .before .before .before .before .before .before .before .before .before .before)))))
+add-on-bits-before-2 c = omega (arith, first-third-known (c .before .before .before), second-known (g₂ (g₃ (g₄ (c .before .before .before .before .before .before .before .before .before .before .before .before)))))
 
 on-bits-before-requires-7 : tie.Need-on-bits-before-requires-7
-on-bits-before-requires-7 c κs = omega (arith, first-third-known (c .before .before .before), second-known (g₂ (g₃ (g₄ (c .before .before .before .before .before .before .before .before .before .before .before)))))
+on-bits-before-requires-7 c κs = omega (arith, first-third-known (c .before .before .before), second-known (g₂ (g₃ (g₄ (c .before .before .before .before .before .before .before .before .before .before .before .before)))))
 
 sub-first4 : tie.Need-sub-first4
 sub-first4 c = first-fourth-known c .1
 
-sub-t26 : tie.Need-sub-t26
-sub-t26 c = links-few (ended-known (c .before .before .before .before .before .before .before .before .before .before .before .before))
+returns-6 : tie.Need-returns-6
+returns-6 c = refused-shape _ (not-needed (ended-known (c .before .before .before .before .before .before .before .before .before .before .before .before .before .before .before)) (f₂ (c .before .before .before .before .before .before .before .before .before .before)) (x₃ (c .before .before .before .before .before .before)) (x₄ (c .before .before)) (first-second-known (c .before .before .before .before .before .before .before .before .before .before)) (first-third-known (c .before .before .before .before .before .before)) (first-fourth-known (c .before .before)) _ (omega (arith, c .before .if6 .taken))) (c .refused5 .ensures)
 
-returns-5 : tie.Need-returns-5
-returns-5 c = shaped (ended-known (c .before .before .before .before .before .before .before .before .before .before .before .before)) (f₂ (c .before .before .before .before .before .before .before .before)) (x₃ (c .before .before .before .before)) (x₄ c) (first-second-known (c .before .before .before .before .before .before .before .before)) (first-third-known (c .before .before .before .before)) (first-fourth-known c)
+returns-7 : tie.Need-returns-7
+returns-7 c = after-other (ended-known (c .before .before .before .before .before .before .before .before .before .before .before .before .before .before)) (f₂ (c .before .before .before .before .before .before .before .before .before)) (x₃ (c .before .before .before .before .before)) (x₄ (c .before)) (first-second-known (c .before .before .before .before .before .before .before .before .before)) (first-third-known (c .before .before .before .before .before)) (first-fourth-known (c .before)) _ (c .if6 .left)
 
 pub check-shape-spec : {M : Type 1} → statement M
 check-shape-spec =
@@ -157,15 +163,19 @@ check-shape-spec =
     (λ c κs. search needs)
     (λ c κs. search needs)
     returns-4
+    sub-first3
+    returns-5
     (λ c κs. search needs)
     (λ c. search needs)
     on-bits-before-requires-6
-    sub-first3
+    sub-first3-2
     add-on-bits-before-2
     on-bits-before-requires-7
     sub-first4
-    sub-t26
     (λ c. search needs)
     (λ c. search needs)
     (λ c. search needs)
-    returns-5)
+    (λ c. search needs)
+    (λ c κs. search needs)
+    returns-6
+    returns-7)

@@ -3,7 +3,7 @@ use mathlib.Core.Path.{refl, ap}
 use Prim.Native.Nat.{_+_, _-_, _*_, _≤_, _<_}
 use native.Mathlib.Omega.{arith}
 use borrow.Author.Needs.{needs}
-use Rattle.query.proofs.Pages.{T-small}
+use Rattle.query.proofs.Pages.{B-small, T-small}
 use Rattle.query.proofs.Follow.{page-small}
 use Rattle.query.proofs.Climbing.{Climb, climb-start, climb-number, climb-node, climb-side, climb-next, climb-end, climb-place, climb-fits}
 use Rattle.query.proofs.climb.climb.Statement.{statement}
@@ -66,7 +66,9 @@ add-root c =
     omega (
       arith,
       s .read .t,
+      s .read .b,
       T-small (s .ready) (a .page .band) (a .page .index),
+      B-small (s .ready) (a .page .band) (a .page .index),
       climb-place s (c .before .loop-test .left) _ _ (ap (λ x. x .0) (x .cross .ensures)) (x .before .before .before .pre .3) refl,
     )
 

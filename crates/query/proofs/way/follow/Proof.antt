@@ -4,7 +4,7 @@ use Prim.Native.Nat.{ℕ, _-_}
 use native.Mathlib.Omega.{arith}
 use borrow.Author.Needs.{needs}
 use Rattle.format.proofs.Descent.{bit}
-use Rattle.query.proofs.Pages.{B-small}
+use Rattle.query.proofs.Pages.{B-small, T-small}
 use Rattle.query.proofs.Follow.{Follow, page-small, follow-start, follow-place, follow-off, follow-next, follow-end}
 use Rattle.query.proofs.way.follow.Statement.{statement}
 use Rattle.query.proofs.way.follow.Tie as tie
@@ -59,7 +59,7 @@ add-link c =
     let l = c .before .before in
     let s = l .before .loop .inv .1 in
     let page = l .before .before .before .before .before .before .args .page in
-    omega (arith, s .small, s .read .b, B-small (s .ready) (page .band) (page .index))
+    omega (arith, s .small, s .read .t, s .read .b, T-small (s .ready) (page .band) (page .index), B-small (s .ready) (page .band) (page .index))
 
 returns-2 : tie.Need-returns-2 Inv-loop μ-loop
 returns-2 c = follow-end (c .before .before .before .loop .inv .1) (c .before .before .loop-test .left) .1

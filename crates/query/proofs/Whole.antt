@@ -1,0 +1,71 @@
+-- The members of a rectangle are those between the first key and the last.
+-- Assumes nothing.
+use mathlib.Core.Bool.{Bool, true, false}
+use mathlib.Core.List.{List, [], _∷_}
+use mathlib.Core.Path.{_≡_, refl, sym, ap, _∙_}
+use Prim.Native.Nat.{ℕ, zero, suc, _+_, _*_, _^_, _≤_, _<_}
+use native.Mathlib.Omega.{arith}
+use lib.ListN.{length}
+use Rattle.format.specs.declared.Rectangle.{Rectangle}
+use Rattle.format.specs.Seq.{All, consIf, select, total}
+use Rattle.format.specs.Image.{keyCount, keysOf, pageNumber, pagesBefore}
+use Rattle.format.specs.Answer.{inside, memberKeys}
+use Rattle.format.specs.Exact.{Accepted}
+use Rattle.format.proofs.Accepted.{facts}
+use Rattle.format.proofs.Lists.{all-to}
+use Rattle.format.proofs.Depth.{no-keys-listed}
+use Rattle.format.proofs.Trie.{Fits}
+use Rattle.format.proofs.Levels.{prefixesAt}
+use Rattle.query.specs.Page.{Ready}
+use Rattle.query.specs.Walk.{Opening, membersBetween}
+use Rattle.query.proofs.Between.{all-between}
+
+select-few : (f : ℕ → Bool) (l : List ℕ) → length (select f l) ≤ length l
+unfolding select
+select-few f [] = omega arith
+select-few f (x ∷ l) = go (f x) (select f l) (select-few f l)
+  where
+    go : (b : Bool) (xs : List ℕ) → length xs ≤ length l → length (consIf b x xs) ≤ suc (length l)
+    go true xs h = unfold consIf in omega arith
+    go false xs h = unfold consIf in omega arith
+
+pub image-long : {img : List ℕ} → Accepted img → 64 ≤ length img
+image-long {img} a = facts img a .questions .header .long
+
+pub ready-of : {img : List ℕ} → Accepted img → (keyCount img ≡ 0 → ⊥) → Ready img
+ready-of a f = record { accepted = a; some = omega (arith, f) }
+
+module _ {img : List ℕ} (a : Accepted img) (rectangle : Rectangle) where
+  pub members-at-most : length (memberKeys img rectangle) ≤ keyCount img
+  unfolding memberKeys
+  members-at-most = omega (arith, select-few (inside rectangle) (keysOf img), facts img a .keys .count-is)
+
+  pub members-few : length (memberKeys img rectangle) ≤ 4096
+  members-few = omega (arith, members-at-most, facts img a .few)
+
+  -- an image without keys
+  pub no-members : keyCount img ≡ 0 → memberKeys img rectangle ≡ []
+  unfolding memberKeys select
+  no-members z = ap (select (inside rectangle)) (no-keys-listed img (a .bytes) (facts img a .questions) z)
+
+  -- every key is one of 32 bits
+  pub members-whole : membersBetween img rectangle (0 * 2 ^ 32) ((0 + 1) * 2 ^ 32) ≡ memberKeys img rectangle
+  unfolding membersBetween memberKeys
+  members-whole = ap (select (inside rectangle)) (all-between (keysOf img) 0 4294967296 (go (keysOf img) (facts img a .keys .fits)))
+    where
+      go : (l : List ℕ) → Fits 32 l → All (λ k. (0 ≤ k) × (k < 4294967296)) l
+      go [] f = tt
+      go (k ∷ l) f = ((omega arith, f .0), go l (f .1))
+
+-- the way into band 1
+pub opening-start : {img : List ℕ} → Ready img → Opening img 32 1 0 0
+unfolding pageNumber pagesBefore total prefixesAt Rattle.format.specs.Trie.descend Rattle.format.specs.Seq.numbersFrom
+opening-start r =
+    record {
+      ready = r;
+      small = omega arith;
+      fours = refl;
+      first-is = refl;
+      short = omega arith;
+      at = record { within = omega arith; prefix = refl };
+    }
