@@ -1,10 +1,15 @@
 // The listing program's output, written into a lent buffer.
+use format::Range;
+use format::Rectangle;
+use query::Members;
 ghost use mathlib.Core.Path.{_≡_};
 ghost use mathlib.Core.List.{_++_};
 ghost use Prim.Native.Nat.{_+_, _*_, _≤_, _<_, _^_};
 ghost use lib.ListN.{length, take, drop};
 ghost use lib.Seq.{sets};
 ghost use Rattle.format.specs.Text.{digits, rows, admissionsWord, refusedWord};
+ghost use Rattle.format.specs.Exact.{wholeSquare};
+ghost use Rattle.format.specs.Text.{printed};
 ghost use Rattle.report.specs.Row.{fieldOf, rowOf, Put};
 
 // The character of a digit.
@@ -101,4 +106,57 @@ fn put_refused(out: &mut [u8])
     out[5] = 101;
     out[6] = 100;
     out[7] = 32;
+}
+
+// Writes the line of a refusal at the start, and returns its length.
+fn put_refusal(out: &mut [u8], n: u8) -> usize
+    requires { ⌜ 14 ≤ length (now out) ⌝ }
+    ensures { λ r. ⌜ Put (now (out .entry)) 0 (refusedWord ++ fieldOf n 10) 14 (now (out .exit)) r ⌝ }
+{
+    put_refused(out);
+    put_field(out, 8, n as u32, 10)
+}
+
+// Writes the whole listing of the first `n` keys at the start, and returns its length.
+fn put_listing(out: &mut [u8], keys: &[u32], n: usize) -> usize
+    requires { ⌜ (n ≤ length (now keys)) × (n ≤ 4096) × (73745 ≤ length (now out)) ⌝ }
+    ensures { λ r. ⌜ Put (now (out .entry)) 0 (admissionsWord ++ fieldOf n 10 ++ rows 0 (take n (now (keys .entry)))) (17 + 18 * n) (now (out .exit)) r ⌝ }
+{
+    put_admissions(out);
+    let at = put_field(out, 11, n as u32, 10);
+    put_rows(out, at, keys, n)
+}
+
+fn whole_square() -> Rectangle
+    ensures { λ r. ⌜ r ≡ wholeSquare ⌝ }
+{
+    Rectangle {
+        holders: Range {
+            low: 0,
+            high: 65535,
+        },
+        slots: Range {
+            low: 0,
+            high: 65535,
+        },
+    }
+}
+
+// Writes the listing program's output for an image into the first bytes of a buffer that has room for every output, and returns its length: 17 bytes at most for
+// the first line, 18 for each of 4,096 others.
+pub fn report(image: &[u8], out: &mut [u8; 73745]) -> usize
+    ensures { λ r. ⌜ (r ≡ length (printed (now (image .entry)))) × (now (out .exit) ≡ printed (now (image .entry)) ++ drop r (now (out .entry))) × (r ≤ length (now (out .exit))) ⌝ }
+{
+    if 65536 < image.len() {
+        return put_refusal(out, 6);
+    }
+    let mut keys = [0u32; 4096];
+    match query::list(image, whole_square(), &mut keys) {
+        Members::Refused(n) => {
+            return put_refusal(out, n);
+        }
+        Members::Count(n) => {
+            return put_listing(out, &keys, n);
+        }
+    }
 }
