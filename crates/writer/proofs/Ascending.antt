@@ -1,0 +1,60 @@
+-- The test of question 15, neighbour by neighbour.
+-- Assumes nothing.
+use mathlib.Core.Path.{_≡_, refl, sym, ap, ap₂, _∙_}
+use mathlib.Core.Bool.{true, false, _&&_}
+use mathlib.Core.List.{List, [], _∷_}
+use Prim.Native.Nat.{ℕ, zero, suc, _+_, _-_, _≤_, _<_}
+use native.Mathlib.Omega.{arith}
+use lib.Dec.{ltb}
+use borrow.Author.Tests.{lt-ltb, le-ltb}
+use lib.ListN.{length, getD, drop}
+use Rattle.format.specs.Writer.{ascending}
+use Rattle.format.proofs.Trie.{Above, Asc}
+
+step : (l : List ℕ) (n : ℕ) → suc n < length l → ascending (drop n l) ≡ ltb (getD l n 0) (getD l (suc n) 0) && ascending (drop (suc n) l)
+unfolding ascending
+step [] n h = absurd (omega arith)
+step (x ∷ []) n h = absurd (omega arith)
+step (x ∷ y ∷ l) zero h = refl
+step (x ∷ y ∷ l) (suc n) h = step (y ∷ l) n (omega arith)
+
+ends : (l : List ℕ) (n : ℕ) → length l ≤ suc n → ascending (drop n l) ≡ true
+unfolding ascending
+ends [] zero h = refl
+ends [] (suc n) h = refl
+ends (x ∷ []) zero h = refl
+ends (x ∷ y ∷ l) zero h = absurd (omega arith)
+ends (x ∷ l) (suc n) h = ends l n (omega arith)
+
+-- the scan at i: the keys are ascending if those from the one before are
+pub record Tested (keys : List ℕ) (i : ℕ) : Type 0 where
+  pub begun : 1 ≤ i
+  pub same : ascending keys ≡ ascending (drop (i - 1) keys)
+
+pub tested-start : (keys : List ℕ) → Tested keys 1
+tested-start [] = record { begun = omega arith; same = refl }
+tested-start (x ∷ keys) = record { begun = omega arith; same = refl }
+
+module _ (keys : List ℕ) (i : ℕ) (t : Tested keys i) where
+  at-step : i < length keys → ascending keys ≡ ltb (getD keys (i - 1) 0) (getD keys i 0) && ascending (drop i keys)
+  at-step lt =
+      let s : suc (i - 1) ≡ i = omega (arith, t .begun) in
+      t .same ∙ step keys (i - 1) (omega arith) ∙ ap (λ (j : ℕ). ltb (getD keys (i - 1) 0) (getD keys j 0) && ascending (drop j keys)) s
+
+  pub tested-no : i < length keys → getD keys i 0 ≤ getD keys (i - 1) 0 → false ≡ ascending keys
+  tested-no lt le = sym (at-step lt ∙ ap (_&& ascending (drop i keys)) (le-ltb _ _ le))
+
+  pub tested-next : i < length keys → getD keys (i - 1) 0 < getD keys i 0 → Tested keys (i + 1)
+  tested-next lt above =
+      let s : i ≡ i + 1 - 1 = omega arith in
+      record { begun = omega arith; same = at-step lt ∙ ap (_&& ascending (drop i keys)) (lt-ltb _ _ above) ∙ ap (λ (j : ℕ). ascending (drop j keys)) s }
+
+  pub tested-end : length keys ≤ i → true ≡ ascending keys
+  tested-end le = sym (t .same ∙ ends keys (i - 1) (omega (arith, t .begun)))
+
+-- keys above one another are ascending
+pub to-ascending : (l : List ℕ) → Asc l → ascending l ≡ true
+unfolding ascending
+to-ascending [] a = refl
+to-ascending (x ∷ []) a = refl
+to-ascending (x ∷ y ∷ l) a = ap₂ _&&_ (lt-ltb x y (a .0)) (to-ascending (y ∷ l) (a .1))

@@ -1,0 +1,96 @@
+-- The header filled in from its first byte to its last.
+-- Assumes nothing.
+use mathlib.Core.Path.{_≡_, refl, sym, ap, ap₂, _∙_}
+use mathlib.Core.List.{List, [], _∷_, _++_, append-assoc, append-nil, flatMap}
+use Prim.Native.Nat.{ℕ, zero, suc, _+_, _*_, _-_, _≤_, _<_}
+use native.Mathlib.Numerals.{add-one}
+use native.Mathlib.Omega.{arith}
+use lib.ListN.{length, getD, take, drop, set, replicate, length-append, length-drop}
+use lib.Seq.{take-at, take-all, take-suc, drop-at, drop-drop, length-take-le}
+use Rattle.format.specs.Page.{twoBytes}
+use Rattle.writer.specs.Image.{headerOf}
+
+-- what is done, and then xs in place of the next k elements of l
+extended : (done l xs : List ℕ) (n k : ℕ) → length done ≡ n → take n (done ++ drop n l) ++ (xs ++ drop (n + k) (done ++ drop n l)) ≡ (done ++ xs) ++ drop (n + k) l
+extended done l xs n k e =
+    ap₂ (λ (a b : List ℕ). a ++ (xs ++ b)) (take-at done (drop n l) n e) (sym (drop-drop k n (done ++ drop n l)) ∙ ap (drop k) (drop-at done (drop n l) n e) ∙ drop-drop k n l)
+    ∙ sym (append-assoc done xs (drop (n + k) l))
+
+length-two : (l : List ℕ) → length (flatMap twoBytes l) ≡ 2 * length l
+unfolding flatMap twoBytes
+length-two [] = refl
+length-two (x ∷ l) = omega (arith, length-two l)
+
+flat-more : (l : List ℕ) (x : ℕ) → flatMap twoBytes (l ++ x ∷ []) ≡ flatMap twoBytes l ++ twoBytes x
+unfolding flatMap twoBytes
+flat-more [] x = refl
+flat-more (y ∷ l) x = ap (twoBytes y ++_) (flat-more l x)
+
+-- the mark, the version and a zero
+pub six-stored : (l : List ℕ) → 64 ≤ length l → set (set (set (set (set (set l 0 0x4C) 1 0x50) 2 0x54) 3 0) 4 1) 5 0 ≡ 0x4C ∷ 0x50 ∷ 0x54 ∷ 0 ∷ 1 ∷ 0 ∷ drop 6 l
+six-stored [] h = absurd (omega arith)
+six-stored (a ∷ []) h = absurd (omega arith)
+six-stored (a ∷ b ∷ []) h = absurd (omega arith)
+six-stored (a ∷ b ∷ c ∷ []) h = absurd (omega arith)
+six-stored (a ∷ b ∷ c ∷ d ∷ []) h = absurd (omega arith)
+six-stored (a ∷ b ∷ c ∷ d ∷ e ∷ []) h = absurd (omega arith)
+six-stored (a ∷ b ∷ c ∷ d ∷ e ∷ f ∷ l) h = refl
+
+-- the first i counts are in
+pub record Headed (out₀ counts out : List ℕ) (i : ℕ) : Type 0 where
+  pub sixteen : length counts ≡ 16
+  pub room : 64 ≤ length out₀
+  pub within : i ≤ 16
+  pub done : out ≡ (take 8 out₀ ++ flatMap twoBytes (take i counts)) ++ drop (8 + 2 * i) out₀
+  pub same : length out ≡ length out₀
+
+pub headed-start : (out counts : List ℕ) → length counts ≡ 16 → 64 ≤ length out → Headed out counts out 0
+unfolding flatMap
+headed-start out counts e h =
+    record { sixteen = e; room = h; within = omega arith; done = sym (ap (_++ drop 8 out) (append-nil (take 8 out)) ∙ cut 8 out); same = refl }
+  where
+    cut : (n : ℕ) (l : List ℕ) → take n l ++ drop n l ≡ l
+    cut zero l = refl
+    cut (suc n) [] = refl
+    cut (suc n) (x ∷ l) = ap (x ∷_) (cut n l)
+
+module _ (out₀ counts out : List ℕ) (i : ℕ) (s : Headed out₀ counts out i) where
+  done-length : length (take 8 out₀ ++ flatMap twoBytes (take i counts)) ≡ 8 + 2 * i
+  done-length =
+      omega (arith, length-append (take 8 out₀) (flatMap twoBytes (take i counts)), length-take-le 8 out₀ (omega (arith, s .room)), length-two (take i counts), length-take-le i counts (omega (arith, s .sixteen, s .within)))
+
+  pub headed-next : (out′ : List ℕ) → i < 16 → out′ ≡ take (8 + 2 * i) out ++ (twoBytes (getD counts i 0) ++ drop (8 + 2 * i + 2) out) → Headed out₀ counts out′ (i + 1)
+  headed-next out′ h e =
+      let more : flatMap twoBytes (take (i + 1) counts) ≡ flatMap twoBytes (take i counts) ++ twoBytes (getD counts i 0) =
+      ap (λ (n : ℕ). flatMap twoBytes (take n counts)) (add-one i) ∙ ap (flatMap twoBytes) (take-suc counts i 0 (omega (arith, s .sixteen))) ∙ flat-more (take i counts) (getD counts i 0) in
+      let n : 8 + 2 * i + 2 ≡ 8 + 2 * (i + 1) = omega arith in
+      let d : out′ ≡ (take 8 out₀ ++ flatMap twoBytes (take (i + 1) counts)) ++ drop (8 + 2 * (i + 1)) out₀ =
+      e
+      ∙ ap (λ (l : List ℕ). take (8 + 2 * i) l ++ (twoBytes (getD counts i 0) ++ drop (8 + 2 * i + 2) l)) (s .done)
+      ∙ extended (take 8 out₀ ++ flatMap twoBytes (take i counts)) out₀ (twoBytes (getD counts i 0)) (8 + 2 * i) 2 done-length
+      ∙ ap₂ (λ (a : List ℕ) (k : ℕ). a ++ drop k out₀) (append-assoc (take 8 out₀) (flatMap twoBytes (take i counts)) (twoBytes (getD counts i 0)) ∙ ap (take 8 out₀ ++_) (sym more)) n in
+      record {
+        sixteen = s .sixteen;
+        room = s .room;
+        within = omega arith;
+        done = d;
+        same = omega (arith, ap length d, length-append (take 8 out₀ ++ flatMap twoBytes (take (i + 1) counts)) (drop (8 + 2 * (i + 1)) out₀), length-append (take 8 out₀) (flatMap twoBytes (take (i + 1) counts)), length-take-le 8 out₀ (omega (arith, s .room)), length-two (take (i + 1) counts), length-take-le (i + 1) counts (omega (arith, s .sixteen)), length-drop (8 + 2 * (i + 1)) out₀, s .room);
+      }
+
+  pub headed-end : (entry out′ : List ℕ) (n : ℕ) → 64 ≤ length entry
+      → out₀ ≡ take 6 (set (set (set (set (set (set entry 0 0x4C) 1 0x50) 2 0x54) 3 0) 4 1) 5 0) ++ (twoBytes n ++ drop 8 (set (set (set (set (set (set entry 0 0x4C) 1 0x50) 2 0x54) 3 0) 4 1) 5 0))
+      → 16 ≤ i → out′ ≡ take 40 out ++ (replicate 24 0 ++ drop 64 out) → out′ ≡ headerOf n counts ++ drop 64 entry
+  unfolding headerOf twoBytes
+  headed-end entry out′ n room begun h e =
+      let t : i ≡ 16 = omega (arith, s .within) in
+      let k : 8 + 2 * i ≡ 40 = omega arith in
+      let c : take i counts ≡ counts = take-all i counts (omega (arith, s .sixteen)) in
+      let o : out₀ ≡ 0x4C ∷ 0x50 ∷ 0x54 ∷ 0 ∷ 1 ∷ 0 ∷ (twoBytes n ++ drop 8 entry) =
+      begun ∙ ap (λ (l : List ℕ). take 6 l ++ (twoBytes n ++ drop 8 l)) (six-stored entry room) ∙ ap (λ (l : List ℕ). 0x4C ∷ 0x50 ∷ 0x54 ∷ 0 ∷ 1 ∷ 0 ∷ (twoBytes n ++ l)) (drop-drop 2 6 entry) in
+      let d : out ≡ (take 8 out₀ ++ flatMap twoBytes counts) ++ drop 40 out₀ = s .done ∙ ap₂ (λ (a : List ℕ) (j : ℕ). (take 8 out₀ ++ flatMap twoBytes a) ++ drop j out₀) c k in
+      let z : length (take 8 out₀ ++ flatMap twoBytes counts) ≡ 40 = ap (λ (a : List ℕ). length (take 8 out₀ ++ flatMap twoBytes a)) (sym c) ∙ done-length ∙ k in
+      e
+      ∙ ap (λ (l : List ℕ). take 40 l ++ (replicate 24 0 ++ drop 64 l)) d
+      ∙ extended (take 8 out₀ ++ flatMap twoBytes counts) out₀ (replicate 24 0) 40 24 z
+      ∙ ap (λ (l : List ℕ). ((take 8 l ++ flatMap twoBytes counts) ++ replicate 24 0) ++ drop 64 l) o
+      ∙ ap (λ (l : List ℕ). ((0x4C ∷ 0x50 ∷ 0x54 ∷ 0 ∷ 1 ∷ 0 ∷ twoBytes n) ++ flatMap twoBytes counts ++ replicate 24 0) ++ l) (drop-drop 56 8 entry)

@@ -1,0 +1,150 @@
+-- The writer's questions and its image, in the terms of the two passes.
+-- Assumes nothing.
+use mathlib.Core.Path.{_≡_, refl, sym, ap, ap₂, _∙_}
+use mathlib.Core.Bool.{true, false}
+use mathlib.Core.Option.{Option, none, some}
+use mathlib.Core.List.{List, [], _∷_, _++_, append-assoc, flatMap, map}
+use Prim.Native.Nat.{ℕ, zero, suc, _+_, _*_, _-_, _^_, _≤_, _<_}
+use native.Mathlib.Omega.{arith}
+use borrow.Author.Tests.{le-leb, lt-leb}
+use lib.ListN.{length, getD, take, drop, replicate, length-append, take-append-drop}
+use lib.Seq.{take-at, take-all, drop-at, drop-drop}
+use Rattle.format.specs.Seq.{total}
+use Rattle.format.specs.Page.{twoBytes}
+use Rattle.format.specs.Question.{Outcome, refused, returns, outcome, settle, firstNo, filled}
+use Rattle.format.specs.Writer.{ascending, bandsOf, bandCounts, bandBytes, pagesOf, rootsIn, header, imageOf, listQuestions, roomQuestion, writeKeys, bufferAfterWriteKeys}
+use Rattle.format.proofs.Trie.{Fits}
+use Rattle.format.proofs.Questions.{after-yes, after-no}
+use Rattle.format.proofs.Members.{of-ascending}
+use Rattle.format.proofs.Exact.{list-writable, write-is}
+use Rattle.writer.specs.declared.Written.{Written}
+use Rattle.writer.specs.declared.Written.the-variants.{Length, Refused}
+use Rattle.writer.specs.declared.Plan.{Plan}
+use Rattle.writer.specs.Writer.{outcomeOf, WrittenKeys}
+use Rattle.writer.specs.Run.{Prefixes}
+use Rattle.writer.specs.Image.{countsOf, pagesIn, headerOf, pagesFrom, bytesOfBand, bytesOfBands, Planned, ImageRoom}
+use Rattle.writer.proofs.Image.{countsIn, pageCount, bandsUp, bands-up, length-up, length-counts, length-band}
+
+-- ---- the image
+
+-- a header of the plan's counts is the format's
+flat-counts : (l : List (List (List ℕ))) → flatMap twoBytes (flatMap countsIn l) ≡ flatMap bandCounts l
+unfolding flatMap bandCounts twoBytes
+flat-counts [] = refl
+flat-counts (band ∷ l) = ap (λ (t : List ℕ). (twoBytes (length (pagesOf band)) ++ twoBytes (rootsIn band)) ++ t) (flat-counts l)
+
+pub image-is : (keys : List ℕ) → headerOf (length keys) (countsOf keys) ++ bytesOfBands keys ≡ imageOf keys
+unfolding imageOf header headerOf countsOf bytesOfBands bytesOfBand twoBytes flatMap
+image-is keys = ap (λ (t : List ℕ). (0x4C ∷ 0x50 ∷ 0x54 ∷ 0 ∷ 1 ∷ 0 ∷ (twoBytes (length keys) ++ (t ++ replicate 24 0))) ++ flatMap (λ band. bandBytes 0 0 (pagesOf band)) (bandsOf keys)) (flat-counts (bandsOf keys))
+
+length-flat : (l : List ℕ) → length (flatMap twoBytes l) ≡ 2 * length l
+unfolding flatMap twoBytes
+length-flat [] = refl
+length-flat (x ∷ l) = omega (arith, length-flat l)
+
+header-length : (keys : List ℕ) → length (headerOf (length keys) (countsOf keys)) ≡ 64
+unfolding headerOf countsOf twoBytes
+header-length keys =
+    let e : length (bandsOf keys) ≡ 8 = ap length (bands-up keys) ∙ length-up 8 keys in
+    let n = length-append (flatMap twoBytes (flatMap countsIn (bandsOf keys))) (replicate 24 0) in
+    omega (arith, n, length-flat (flatMap countsIn (bandsOf keys)), length-counts (bandsOf keys))
+
+pages-length : (keys : List ℕ) → length (bytesOfBands keys) ≡ 64 * pagesIn keys
+unfolding bytesOfBands pagesIn
+pages-length keys = go (bandsOf keys)
+  where
+    go : (l : List (List (List ℕ))) → length (flatMap bytesOfBand l) ≡ 64 * total (map pageCount l)
+    go [] = unfold flatMap total in refl
+    go (band ∷ l) = sum band l (go l)
+      where
+        sum : (band : List (List ℕ)) (l : List (List (List ℕ))) → length (flatMap bytesOfBand l) ≡ 64 * total (map pageCount l) → length (flatMap bytesOfBand (band ∷ l)) ≡ 64 * total (map pageCount (band ∷ l))
+        sum band l h = unfold flatMap total in omega (arith, h, length-append (bytesOfBand band) (flatMap bytesOfBand l), length-band band)
+
+pub image-length : (keys : List ℕ) → length (imageOf keys) ≡ 64 + 64 * pagesIn keys
+image-length keys = ap length (sym (image-is keys)) ∙ length-append (headerOf (length keys) (countsOf keys)) (bytesOfBands keys) ∙ ap₂ _+_ (header-length keys) (pages-length keys)
+
+-- header and pages in the buffer
+pub image-filled : (keys out out₁ out₂ : List ℕ) → out₁ ≡ headerOf (length keys) (countsOf keys) ++ drop 64 out → out₂ ≡ pagesFrom out₁ 1 (bytesOfBands keys) → out₂ ≡ imageOf keys ++ drop (length (imageOf keys)) out
+unfolding pagesFrom
+image-filled keys out out₁ out₂ e₁ e₂ =
+    let h = headerOf (length keys) (countsOf keys) in
+    let n : 64 + length (bytesOfBands keys) ≡ length (imageOf keys) = omega (arith, image-length keys, pages-length keys) in
+    e₂
+    ∙ ap (λ (l : List ℕ). take 64 l ++ (bytesOfBands keys ++ drop (64 + length (bytesOfBands keys)) l)) e₁
+    ∙ ap₂ (λ (a b : List ℕ). a ++ (bytesOfBands keys ++ b)) (take-at h (drop 64 out) 64 (header-length keys))
+    (sym (drop-drop (length (bytesOfBands keys)) 64 (h ++ drop 64 out)) ∙ ap (drop (length (bytesOfBands keys))) (drop-at h (drop 64 out) 64 (header-length keys)) ∙ drop-drop (length (bytesOfBands keys)) 64 out ∙ ap (λ (k : ℕ). drop k out) n)
+    ∙ sym (append-assoc h (bytesOfBands keys) (drop (length (imageOf keys)) out))
+    ∙ ap (_++ drop (length (imageOf keys)) out) (image-is keys)
+
+-- ---- the questions
+
+refused-by : (keys buffer : List ℕ) (n : ℕ) → firstNo (listQuestions keys ++ roomQuestion keys buffer ∷ []) ≡ some n → WrittenKeys keys buffer (Refused n) buffer
+unfolding writeKeys bufferAfterWriteKeys settle
+refused-by keys buffer n e =
+    let o : writeKeys keys buffer ≡ refused n = ap (λ (m : Option ℕ). outcome m (length (imageOf keys))) e ∙ (unfold outcome in refl) in
+    record { returned = sym o; bytes = sym (ap (λ (m : Outcome ℕ). filled m (imageOf keys) buffer) o ∙ (unfold filled in refl)) }
+
+pub too-many : (keys buffer : List ℕ) → 4096 < length keys → WrittenKeys keys buffer (Refused 14) buffer
+too-many keys buffer h = refused-by keys buffer 14 no
+  where
+    no : firstNo (listQuestions keys ++ roomQuestion keys buffer ∷ []) ≡ some 14
+    no = unfold listQuestions firstNo in rw (lt-leb (length keys) 4096 h) refl
+
+pub not-ascending : (keys buffer : List ℕ) → length keys ≤ 4096 → ascending keys ≡ false → WrittenKeys keys buffer (Refused 15) buffer
+not-ascending keys buffer few e = refused-by keys buffer 15 no
+  where
+    no : firstNo (listQuestions keys ++ roomQuestion keys buffer ∷ []) ≡ some 15
+    no = unfold listQuestions firstNo in rw (le-leb (length keys) 4096 few, e) refl
+
+-- 14 and 15 got a yes; 16 gets one too
+module _ (keys buffer : List ℕ) (few : length keys ≤ 4096) (ordered : ascending keys ≡ true) (fits : Fits 32 keys) where
+  pub keys-prefixes : Prefixes keys
+  keys-prefixes = record { few = few; ordered = ordered }
+
+  yes-all : firstNo (listQuestions keys) ≡ none
+  yes-all = list-writable keys (of-ascending keys ordered) fits few
+
+  pub no-room : length buffer < 64 + 64 * pagesIn keys → WrittenKeys keys buffer (Refused 17) buffer
+  no-room h = refused-by keys buffer 17 (after-yes (listQuestions keys) (roomQuestion keys buffer ∷ []) yes-all ∙ no)
+    where
+      no : firstNo (roomQuestion keys buffer ∷ []) ≡ some 17
+      no = unfold roomQuestion firstNo in rw (lt-leb (length (imageOf keys)) (length buffer) (omega (arith, image-length keys))) refl
+
+  pub written : (out₁ out₂ : List ℕ) → 64 + 64 * pagesIn keys ≤ length buffer → out₁ ≡ headerOf (length keys) (countsOf keys) ++ drop 64 buffer → out₂ ≡ pagesFrom out₁ 1 (bytesOfBands keys)
+      → WrittenKeys keys buffer (Length (64 + 64 * pagesIn keys)) out₂
+  unfolding bufferAfterWriteKeys
+  written out₁ out₂ h e₁ e₂ =
+      let o : writeKeys keys buffer ≡ returns (length (imageOf keys)) = write-is keys buffer yes-all (unfold roomQuestion in le-leb (length (imageOf keys)) (length buffer) (omega (arith, image-length keys))) in
+      record {
+        returned = sym (o ∙ ap returns (image-length keys));
+        bytes = image-filled keys buffer out₁ out₂ e₁ e₂ ∙ sym (ap (λ (m : Outcome ℕ). filled m (imageOf keys) buffer) o ∙ (unfold filled in refl));
+      }
+
+-- ---- the keys in their places
+
+pub fits-of : (l : List ℕ) → ((i : ℕ) → getD l i 0 < 2 ^ 32) → Fits 32 l
+fits-of [] h = tt
+fits-of (x ∷ l) h = (h 0, fits-of l (λ i. h (suc i)))
+
+pub loaded-part : (keys l m : List ℕ) → m ≡ keys ++ drop (length keys) l → take (length keys - 0) m ≡ keys
+loaded-part keys l m e = ap (take (length keys - 0)) e ∙ take-at keys (drop (length keys) l) (length keys - 0) (omega arith)
+
+-- a part that comes back as long as it was
+pub back-count : (ys xs : List ℕ) (n : ℕ) → length ys ≡ length (take n xs) → length (ys ++ drop n xs) ≡ length xs
+back-count ys xs n e = omega (arith, length-append ys (drop n xs), length-append (take n xs) (drop n xs), ap length (take-append-drop n xs))
+
+module _ (keys buffer : List ℕ) (few : length keys ≤ 4096) (ordered : ascending keys ≡ true) (fits : Fits 32 keys) (part : List ℕ) (plan : Plan) (is : part ≡ keys) (p′ : Planned part plan) where
+  p : Planned keys plan
+  p = rw is at p′
+
+  pub plan-no-room : length buffer < 64 + 64 * plan .pages → WrittenKeys keys buffer (Refused 17) buffer
+  plan-no-room h = no-room keys buffer few ordered fits (rw (← p .pages-are) h)
+
+  module _ (room : 64 + 64 * plan .pages ≤ length buffer) (out₁ part₂ : List ℕ) (is₂ : part₂ ≡ keys) where
+    pub plan-room : length out₁ ≡ length buffer → ImageRoom part₂ out₁ plan
+    plan-room same = rw is₂ (record { listed = keys-prefixes keys buffer few ordered fits; planned = p; room = omega arith })
+
+    pub plan-written : (out₂ : List ℕ) → out₁ ≡ headerOf (length keys) (plan .counts) ++ drop 64 buffer → out₂ ≡ pagesFrom out₁ 1 (bytesOfBands part₂)
+        → WrittenKeys keys buffer (Length (64 + 64 * plan .pages)) out₂
+    plan-written out₂ e₁ e₂ =
+        rw (p .pages-are) (written keys buffer few ordered fits out₁ out₂ (rw (p .pages-are) at room) (e₁ ∙ ap (λ (c : List ℕ). headerOf (length keys) c ++ drop 64 buffer) (p .counts-are)) (e₂ ∙ ap (λ (k : List ℕ). pagesFrom out₁ 1 (bytesOfBands k)) is₂))

@@ -1,0 +1,17 @@
+pub mod Runs
+pub mod Bands
+pub mod Ascending
+pub mod Scan
+pub mod Counting
+pub mod Stores
+pub mod Nodes
+pub mod Filling
+pub mod Levels
+pub mod Pages
+pub mod Filled
+pub mod Band
+pub mod Header
+pub mod Image
+pub mod Job
+pub mod Weaving
+pub mod Local

@@ -1,0 +1,62 @@
+-- `writer::page::fill_page` meets its contract. Assumes nothing.
+use native.Mathlib.Omega.{arith}
+use borrow.Author.Needs.{needs}
+use Rattle.nodes.proofs.Numbers.{bytes-of}
+use Rattle.writer.proofs.Filled.{levels-room, first-within, links-more, page-done}
+use Rattle.writer.proofs.page.fill_page.Statement.{statement}
+use Rattle.writer.proofs.page.fill_page.Tie as tie
+
+fill-levels-requires : tie.Need-fill-levels-requires
+fill-levels-requires c κs = levels-room _ _ _ _ (c .before .before .before .before .before .before .before .before .pre) _ (c .before .before .before .before .begin-page .ensures)
+
+sub-roots : tie.Need-sub-roots
+sub-roots c = first-within _ _ _ _ (c .before .before .before .before .before .before .before .before .before .before .before .before .before .before .pre) _ (c .before .before .before .before .before .before .before .before .before .before .begin-page .ensures) _ _ _ (c .before .before .before .before .before .fill-levels .ensures) (c .before .before .before .before .before .fill-levels .kept .1 .0)
+
+sub-links : tie.Need-sub-links
+sub-links c =
+    omega (arith, links-more _ _ _ _ (c .before .before .before .before .before .before .before .before .before .before .before .before .before .before .before .before .before .before .before .before .before .before .before .pre) _ (c .before .before .before .before .before .before .before .before .before .before .before .before .before .before .before .before .before .before .before .begin-page .ensures) _ _ _ (c .before .before .before .before .before .before .before .before .before .before .before .before .before .before .fill-levels .ensures) (c .before .before .before .before .before .before .before .before .before .before .before .before .before .before .fill-levels .kept .1 .0) (bytes-of (c .before .before .before .before .before .before .before .before .before .before .before .before .before .before .fill-levels .last .0) (λ i. c .before .before .before .before .before .before .before .before .before .before .before .before .slice-known4 .given i .fits)) _ (c .before .before .before .before .before .before .before .gather .ensures) _ _ (c .before .before .before .before .on-bits .ensures .0) (c .on-bits-before .ensures .0))
+
+returns : tie.Need-returns
+returns c =
+    page-done _ _ _ _ (c .before .before .before .before .before .before .before .before .before .before .before .before .before .before .before .before .before .before .before .before .before .before .before .before .before .pre) _ (c .before .before .before .before .before .before .before .before .before .before .before .before .before .before .before .before .before .before .before .before .before .begin-page .ensures) _ _ _ (c .before .before .before .before .before .before .before .before .before .before .before .before .before .before .before .before .fill-levels .ensures) (c .before .before .before .before .before .before .before .before .before .before .before .before .before .before .before .before .fill-levels .kept .1 .0) (bytes-of (c .before .before .before .before .before .before .before .before .before .before .before .before .before .before .before .before .fill-levels .last .0) (λ i. c .before .before .before .before .before .before .before .before .before .before .before .before .before .before .slice-known4 .given i .fits)) _ (c .before .before .before .before .before .before .before .before .before .gather .ensures) _ _ (c .before .before .before .before .before .before .on-bits .ensures .0) (c .before .before .on-bits-before .ensures .0)
+
+begin-page-requires : tie.Need-begin-page-requires
+begin-page-requires c κs = search needs
+
+gather-requires : tie.Need-gather-requires
+gather-requires c κs = search needs
+
+on-bits-requires : tie.Need-on-bits-requires
+on-bits-requires c κs = search needs
+
+on-bits-before-requires : tie.Need-on-bits-before-requires
+on-bits-before-requires c κs = search needs
+
+add-t16 : tie.Need-add-t16
+add-t16 c = search needs
+
+add-t21 : tie.Need-add-t21
+add-t21 c = search needs
+
+same-length : tie.Need-same-length
+same-length c = search needs
+
+same-length-2 : tie.Need-same-length-2
+same-length-2 c = search needs
+
+pub fill-page-spec : {M : Type 1} → statement M
+fill-page-spec =
+    tie.close
+    (tie.spec
+    begin-page-requires
+    fill-levels-requires
+    sub-roots
+    gather-requires
+    on-bits-requires
+    on-bits-before-requires
+    sub-links
+    add-t16
+    add-t21
+    same-length
+    same-length-2
+    returns)

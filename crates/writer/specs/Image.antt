@@ -1,0 +1,55 @@
+-- The image's parts as the writer fills them in.
+-- Assumes nothing.
+use mathlib.Core.Path.{_≡_}
+use mathlib.Core.List.{List, [], _∷_, _++_, map, flatMap}
+use Prim.Native.Nat.{ℕ, _+_, _-_, _*_, _≤_}
+use lib.ListN.{length, take, drop, replicate}
+use Rattle.format.specs.Seq.{total}
+use Rattle.format.specs.Page.{twoBytes}
+use Rattle.format.specs.Writer.{bandsOf, bandBytes, pagesOf, rootsIn}
+use Rattle.writer.specs.Run.{Prefixes, bandAbove, rootsAbove}
+use Rattle.writer.specs.declared.Plan.{Plan}
+
+-- the page count and the root count of each band, and the pages of all
+unfoldable pub countsOf : List ℕ → List ℕ
+countsOf keys = flatMap {B = ℕ} (λ band. length (pagesOf band) ∷ rootsIn band ∷ []) (bandsOf keys)
+
+unfoldable pub pagesIn : List ℕ → ℕ
+pagesIn keys = total (map (λ band. length (pagesOf band)) (bandsOf keys))
+
+pub record Planned (keys : List ℕ) (plan : Plan) : Type 0 where
+  pub counts-are : plan .counts ≡ countsOf keys
+  pub pages-are : plan .pages ≡ pagesIn keys
+  pub few : plan .pages ≤ 32768
+
+-- the header of n keys, where counts are the page count and the root count of each band
+unfoldable pub headerOf : ℕ → List ℕ → List ℕ
+headerOf n counts = 0x4C ∷ 0x50 ∷ 0x54 ∷ 0 ∷ 1 ∷ 0 ∷ (twoBytes n ++ (flatMap twoBytes counts ++ replicate 24 0))
+
+-- a buffer with the bytes of pages in place of those from page `first` on
+unfoldable pub pagesFrom : List ℕ → ℕ → List ℕ → List ℕ
+pagesFrom out first bytes = take (64 * first) out ++ (bytes ++ drop (64 * first + length bytes) out)
+
+-- the bytes of a band's pages, and of all bands'
+unfoldable pub bytesOfBand : List (List ℕ) → List ℕ
+bytesOfBand band = bandBytes 0 0 (pagesOf band)
+
+unfoldable pub bytesOfBands : List ℕ → List ℕ
+bytesOfBands keys = flatMap bytesOfBand (bandsOf keys)
+
+-- a buffer with room for the pages of the band above prefixes, from page `first` on
+pub record BandRoom (prefixes out : List ℕ) (first : ℕ) : Type 0 where
+  pub listed : Prefixes prefixes
+  pub room : 64 * (first + length (pagesOf (bandAbove prefixes))) ≤ length out
+
+-- the band's pages are filled in, and the prefixes have become those of its roots, so many
+pub record BandDone (prefixes out : List ℕ) (first : ℕ) (prefixes′ out′ : List ℕ) (roots : ℕ) : Type 0 where
+  pub bytes : out′ ≡ pagesFrom out first (bytesOfBand (bandAbove prefixes))
+  pub roots-few : roots ≤ length prefixes
+  pub lifted : take roots prefixes′ ≡ rootsAbove prefixes
+
+-- a plan, and a buffer with room for the image
+pub record ImageRoom (keys out : List ℕ) (plan : Plan) : Type 0 where
+  pub listed : Prefixes keys
+  pub planned : Planned keys plan
+  pub room : 64 * (1 + plan .pages) ≤ length out

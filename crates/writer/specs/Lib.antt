@@ -1,0 +1,5 @@
+pub mod Run
+pub mod Page
+pub mod Image
+pub mod Writer
+pub mod List

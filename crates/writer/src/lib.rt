@@ -1,0 +1,230 @@
+// The writer: from a list of keys to its image in a lent buffer. A first pass plans the pages, so that nothing is written where
+// the buffer is too small; a second fills each page in its own 64 bytes. Both go from the last band to the first, and turn the prefixes
+// below a band into those of its roots, so that the work falls with the number of nodes.
+mod run; // run.rt: runs of prefixes, and where a page ends
+mod page; // page.rt: the bytes of one page
+
+use format::Admission;
+use format::OutLink;
+use format::Root;
+ghost use mathlib.Core.Path.{_≡_};
+ghost use mathlib.Core.List.{_++_};
+ghost use Prim.Native.Nat.{_+_, _-_, _*_, _≤_, _<_};
+ghost use lib.ListN.{length, take, drop, replicate};
+ghost use Rattle.writer.specs.Writer.{WrittenKeys};
+ghost use Rattle.writer.specs.Run.{Prefixes};
+ghost use Rattle.writer.specs.List.{keyIn, fitting, wovenOver, WrittenFirst, WrittenList};
+ghost use Rattle.writer.specs.Image.{headerOf, pagesFrom, bytesOfBands, Planned, BandRoom, BandDone, ImageRoom};
+
+// The image's length, or the number of the question that got a no.
+pub enum Written {
+    Length(usize),
+    Refused(u8),
+}
+
+// Paper 01's T and B of a page: the numbers of its first root and its first out-link.
+pub struct Head {
+    pub root: Root,
+    pub link: OutLink,
+}
+
+// What the first pass finds: page count and root count of each band, and the pages of all bands.
+pub struct Plan {
+    pub counts: [u16; 16],
+    pub pages: usize,
+}
+
+// The first pass.
+fn planned(keys: &mut [u32]) -> Plan
+    requires { ⌜ Prefixes (now keys) ⌝ }
+    ensures { λ r. ⌜ Planned (now (keys .entry)) r ⌝ }
+{
+    let mut counts = [0u16; 16];
+    let mut pages = 0;
+    let mut n = keys.len();
+    let mut b = 8;
+    while 0 < b {
+        b -= 1;
+        let band = run::count_band(&mut keys[0..n]);
+        counts[2 * b] = band.pages as u16;
+        counts[2 * b + 1] = band.roots as u16;
+        pages += band.pages;
+        n = band.roots;
+    }
+    Plan { counts, pages }
+}
+
+// Fills the header: `n` keys, and the counts of the bands.
+fn fill_header(out: &mut [u8], n: u16, counts: [u16; 16])
+    requires { ⌜ 64 ≤ length (now out) ⌝ }
+    ensures { λ _. ⌜ now (out .exit) ≡ headerOf n counts ++ drop 64 (now (out .entry)) ⌝ }
+{
+    out[0] = 0x4c;
+    out[1] = 0x50;
+    out[2] = 0x54;
+    out[3] = 0;
+    out[4] = 1;
+    out[5] = 0;
+    page::put_number(out, 6, n);
+    let mut i = 0;
+    while i < 16 {
+        page::put_number(out, 8 + 2 * i, counts[i]);
+        i += 1;
+    }
+    page::clear(out, 40, 24);
+}
+
+// Moves the `n` numbers before `end` to the places from `to` on.
+fn move_down(keys: &mut [u32], to: usize, end: usize, n: usize)
+    requires { ⌜ (to + n ≤ end) × (end ≤ length (now keys)) ⌝ }
+    ensures { λ _. ⌜ now (keys .exit) ≡ take to (now (keys .entry)) ++ (take n (drop (end - n) (now (keys .entry))) ++ drop (to + n) (now (keys .entry))) ⌝ }
+{
+    let mut i = 0;
+    while i < n {
+        keys[to + i] = keys[end - n + i];
+        i += 1;
+    }
+}
+
+// Fills the pages of the band above the prefixes, numbered from `first` on, and puts the prefixes of its roots in the first places;
+// returns how many.
+fn fill_band(keys: &mut [u32], out: &mut [u8], first: usize) -> usize
+    requires { ⌜ BandRoom (now keys) (now out) first ⌝ }
+    ensures { λ r. ⌜ BandDone (now (keys .entry)) (now (out .entry)) first (now (keys .exit)) (now (out .exit)) r ⌝ }
+{
+    let mut head = Head {
+        root: Root(0),
+        link: OutLink(0),
+    };
+    let mut number = first;
+    let mut from = 0;
+    while from < keys.len() {
+        let run = run::page_run(&keys[from..]);
+        let end = from + run.end;
+        let at = 64 * number;
+        let next = page::fill_page(&mut out[at..], &mut keys[from..end], run.nodes, head);
+        move_down(keys, head.root.0, end, next.root.0 - head.root.0);
+        head = next;
+        from = end;
+        number += 1;
+    }
+    head.root.0
+}
+
+// The second pass: fills the pages of all bands.
+fn fill_bands(keys: &mut [u32], out: &mut [u8], plan: Plan)
+    requires { ⌜ ImageRoom (now keys) (now out) plan ⌝ }
+    ensures { λ _. ⌜ now (out .exit) ≡ pagesFrom (now (out .entry)) 1 (bytesOfBands (now (keys .entry))) ⌝ }
+{
+    let counts = plan.counts;
+    let mut first = 1 + plan.pages;
+    let mut n = keys.len();
+    let mut b = 8;
+    while 0 < b {
+        b -= 1;
+        first -= counts[2 * b] as usize;
+        n = fill_band(&mut keys[0..n], out, first);
+    }
+}
+
+// Puts the keys in the first places.
+fn load(places: &mut [u32], keys: &[u32])
+    requires { ⌜ length (now keys) ≤ length (now places) ⌝ }
+    ensures { λ _. ⌜ now (places .exit) ≡ now (keys .entry) ++ drop (length (now (keys .entry))) (now (places .entry)) ⌝ }
+{
+    let mut i = 0;
+    while i < keys.len() {
+        places[i] = keys[i];
+        i += 1;
+    }
+}
+
+// Writes the image of a list of keys: questions 14 to 17, then the image's length.
+pub fn write_keys(keys: &[u32], out: &mut [u8]) -> Written
+    ensures { λ r. ⌜ WrittenKeys (now (keys .entry)) (now (out .entry)) r (now (out .exit)) ⌝ }
+{
+    if 4096 < keys.len() {
+        return Written::Refused(14);
+    }
+    if !run::is_ascending(keys) {
+        return Written::Refused(15);
+    }
+    // 16 is not asked: after 14 and 15 it gets a yes (format's law `list-writable`, which the proof cites).
+    let n = keys.len();
+    let mut prefixes = [0u32; 4096];
+    load(&mut prefixes, keys);
+    let plan = planned(&mut prefixes[0..n]);
+    let length = 64 + 64 * plan.pages;
+    if out.len() < length {
+        return Written::Refused(17);
+    }
+    let counts = plan.counts;
+    fill_header(out, n as u16, counts);
+    load(&mut prefixes, keys);
+    fill_bands(&mut prefixes[0..n], out, plan);
+    Written::Length(length)
+}
+
+// ---- the lent list of admissions
+// The borrow checker covers no function over a lent slice of structs, so `weave`, `woven`, `write` and `write_first` are proved by hand.
+// They are thin: the work is `key`, on one admission, and `write_first_keys`, on the keys.
+
+// The key of an admission.
+fn key(a: Admission) -> u32
+    ensures { λ r. ⌜ r ≡ keyIn a ⌝ }
+{
+    zorder::weave(a.holder, a.slot)
+}
+
+// How many of `n` admissions are woven: all, or none where there are fewer places. So none is read where question 14 gets a no.
+fn to_weave(n: usize, places: usize) -> usize
+    ensures { λ r. ⌜ r ≡ fitting n places ⌝ }
+{
+    if places < n { 0 } else { n }
+}
+
+// Writes the image of the first `n` keys.
+fn write_first_keys(keys: [u32; 4096], n: usize, out: &mut [u8]) -> Written
+    ensures { λ r. ⌜ WrittenFirst keys n (now (out .entry)) r (now (out .exit)) ⌝ }
+{
+    if 4096 < n {
+        return Written::Refused(14);
+    }
+    write_keys(&keys[0..n], out)
+}
+
+// Puts the keys of the list into the first places.
+fn weave(list: &[Admission], keys: &mut [u32])
+    ensures { λ _. ⌜ now (keys .exit) ≡ wovenOver (now (list .entry)) (now (keys .entry)) ⌝ }
+{
+    let n = to_weave(list.len(), keys.len());
+    let mut i: usize = 0;
+    while i < n {
+        keys[i] = key(list[i]);
+        i = i + 1;
+    }
+}
+
+// The keys of the list, and zeros after them.
+fn woven(list: &[Admission]) -> [u32; 4096]
+    ensures { λ r. ⌜ r ≡ wovenOver (now (list .entry)) (replicate 4096 0) ⌝ }
+{
+    let mut keys = [0; 4096];
+    weave(list, &mut keys);
+    keys
+}
+
+// The job: writes the image of the list into the first bytes of the buffer, and returns its length.
+pub fn write(list: &[Admission], out: &mut [u8]) -> Written
+    ensures { λ r. ⌜ WrittenList (now (list .entry)) (now (out .entry)) r (now (out .exit)) ⌝ }
+{
+    write_first_keys(woven(list), list.len(), out)
+}
+
+// The same for a caller that owns an array of admissions, of which the first `n` are the list: it needs no proof by hand.
+pub fn write_first(list: [Admission; 4096], n: usize, out: &mut [u8]) -> Written
+    requires { ⌜ n ≤ 4096 ⌝ }
+    ensures { λ r. ⌜ WrittenList (take n list) (now (out .entry)) r (now (out .exit)) ⌝ }
+{
+    write(&list[..n], out)
+}
