@@ -5,8 +5,8 @@ use mathlib.Core.List.{List, [], _∷_}
 use mathlib.Core.Option.{some}
 use Prim.Native.Nat.{ℕ, zero, suc, _+_, _-_, _*_, _≤_, _<_}
 use native.Mathlib.Omega.{arith}
-use borrow.Author.Tests.{eq-eqb, ne-eqb, le-leb, lt-leb, lt-ltb, le-ltb}
-use lib.Dec.{eqb, leb, ltb}
+use borrow.Author.Tests.{le-leb, lt-leb, lt-ltb, le-ltb, eqb-true}
+use lib.Dec.{leb, ltb}
 use lib.ListN.{length, take, drop, getD}
 use lib.Seq.{take-all}
 use Rattle.format.specs.Seq.{All, every}
@@ -18,11 +18,11 @@ use Rattle.format.proofs.Bytes.{length-levelsIn, levels-shape}
 use Rattle.format.proofs.Subtries.{first-shape, length-first, page-roots}
 use Rattle.format.proofs.Counting.{marks, marks-add, marks-mono, thirdAt, fourthAt, nodes-counted, links-counted, subtrie-counted, every-flatten, flatten-levels}
 use Rattle.nodes.specs.declared.Words.{Words}
-use Rattle.nodes.specs.Words.{wordsOf, onesBefore, noneEmpty}
+use Rattle.nodes.specs.Words.{wordsOf, onesBefore, noneEmpty, restEmpty}
 use Rattle.nodes.proofs.Numbers.{Nodes}
 use Rattle.nodes.proofs.Gathered.{length-nodes, nodes-small}
 use Rattle.nodes.proofs.Used.{rest-empty-law}
-use Rattle.nodes.proofs.Calls.{counted, all-counted, none-found-empty}
+use Rattle.nodes.proofs.Calls.{counted, all-counted, none-found-empty, rest-found-empty}
 use Rattle.checker.specs.Refusal.{refusalOf}
 use Rattle.checker.specs.declared.page.Shape.{Shape}
 use Rattle.checker.specs.Paged.{pairsAt, levels, shapeQuestions, Shaped}
@@ -174,37 +174,37 @@ module _ {img : List ℕ} {at r : ℕ} {w : Words} {a b c : ℕ} (f : Fourth img
     unfolding shapeQuestions
     empty-found e v = sym (asked-no 10 _ _ (ten ∙ e))
 
-    module _ (yes-10 : p ≡ true) (all x : ℕ) (ea : all ≡ getD (w .before) 8 0) (ex : x ≡ onesBefore (w .word) (w .before) (r + c)) where
-      all-is : all ≡ onBits (pairsAt img at)
-      all-is = ea ∙ all-counted img (k .small) at (k .fits) w (k .gathered)
+    module _ (yes-10 : p ≡ true) (q : Bool) (eq : q ≡ restEmpty (w .word) (w .before) (r + c)) where
+      q-is : q ≡ every isZero (drop (r + c) (pairsAt img at))
+      q-is = eq ∙ rest-found-empty img (k .small) at (k .fits) w (k .gathered) (r + c) h
 
-      x-is : x ≡ marks (pairsAt img at) (r + c)
-      x-is = rank k (r + c) x h ex
+      eleven : every isZero (drop (nodeCount r (levels (pairsAt img at) r)) (pairsAt img at)) ≡ q
+      eleven = ap (λ (n : ℕ). every isZero (drop n (pairsAt img at))) (sym (f .nodes-are)) ∙ sym q-is
 
-      eleven : every isZero (drop (nodeCount r (levels (pairsAt img at) r)) (pairsAt img at)) ≡ eqb x all
-      unfolding marks
-      eleven =
-          ap (λ (n : ℕ). every isZero (drop n (pairsAt img at))) (sym (f .nodes-are))
-          ∙ sym (rest-empty-law (pairsAt img at) (r + c))
-          ∙ sym (ap₂ eqb x-is all-is)
-
-      pub rest-found : (x ≡ all → ⊥) → (v : ℕ) → some 11 ≡ firstNo (shapeQuestions (pairsAt img at) r v)
+      pub rest-found : q ≡ false → (v : ℕ) → some 11 ≡ firstNo (shapeQuestions (pairsAt img at) r v)
       unfolding shapeQuestions
-      rest-found n v = sym (asked-yes 10 _ _ (ten ∙ yes-10) ∙ asked-no 11 _ _ (eleven ∙ ne-eqb x all n))
+      rest-found e v = sym (asked-yes 10 _ _ (ten ∙ yes-10) ∙ asked-no 11 _ _ (eleven ∙ e))
 
-      both : x ≡ all → (v : ℕ) → firstNo (shapeQuestions (pairsAt img at) r v) ≡ firstNo ((12, ltb 240 (nodeCount 1 (firstSubtries 1 (levels (pairsAt img at) r)) + v)) ∷ [])
-      unfolding shapeQuestions
-      both e v = asked-yes 10 _ _ (ten ∙ yes-10) ∙ asked-yes 11 _ _ (eleven ∙ eq-eqb x all e)
+      module _ (yes-11 : q ≡ true) where
+        both : (v : ℕ) → firstNo (shapeQuestions (pairsAt img at) r v) ≡ firstNo ((12, ltb 240 (nodeCount 1 (firstSubtries 1 (levels (pairsAt img at) r)) + v)) ∷ [])
+        unfolding shapeQuestions
+        both v = asked-yes 10 _ _ (ten ∙ yes-10) ∙ asked-yes 11 _ _ (eleven ∙ yes-11)
 
-      pub ended : x ≡ all → Ended img at r w a b c all
-      ended e = record {
-        before = f;
-        fits = h;
-        asked = both e;
-        positive = and-right (leb (nodeCount r (levels (pairsAt img at) r)) 240) (every (every isPositive) (levels (pairsAt img at) r)) (ten ∙ yes-10);
-        all-is = all-is;
-        end-is = sym e ∙ x-is;
-      }
+        all-before : marks (pairsAt img at) (r + c) ≡ onBits (pairsAt img at)
+        unfolding marks
+        all-before = eqb-true (onBits (take (r + c) (pairsAt img at))) (onBits (pairsAt img at)) (rest-empty-law (pairsAt img at) (r + c) ∙ sym q-is ∙ yes-11)
+
+        pub ended : (all : ℕ) → all ≡ getD (w .before) 8 0 → Ended img at r w a b c all
+        ended all ea =
+            let all-is = ea ∙ all-counted img (k .small) at (k .fits) w (k .gathered) in
+            record {
+              before = f;
+              fits = h;
+              asked = both;
+              positive = and-right (leb (nodeCount r (levels (pairsAt img at) r)) 240) (every (every isPositive) (levels (pairsAt img at) r)) (ten ∙ yes-10);
+              all-is = all-is;
+              end-is = all-is ∙ sym all-before;
+            }
 
 -- ---- question 12, and what is counted
 

@@ -43,7 +43,7 @@ fn end_below(image: &[u8], band: usize) -> Root
 }
 
 // The number of the first question of band `band` that gets a no, 0 where none does. The band's first page is page `first` of the image.
-pub fn band_refusal(image: &[u8], band: usize, first: usize) -> u8
+fn band_refusal(image: &[u8], band: usize, first: usize) -> u8
     requires { ⌜ BandAt (now image) band first ⌝ }
     ensures { λ r. ⌜ refusalOf r ≡ firstNo (bandQuestions (now (image .entry)) band) ⌝ }
 {
@@ -73,7 +73,7 @@ pub fn band_refusal(image: &[u8], band: usize, first: usize) -> u8
 }
 
 // The number of the first question of the bands that gets a no, 0 where none does.
-pub fn bands_refusal(image: &[u8]) -> u8
+pub(crate) fn bands_refusal(image: &[u8]) -> u8
     requires { ⌜ Sized (now image) ⌝ }
     ensures { λ r. ⌜ refusalOf r ≡ firstNo (flatMap (bandQuestions (now (image .entry))) bands) ⌝ }
 {

@@ -1,7 +1,7 @@
 // The checker: questions 1 to 13 of any bytes.
-pub mod band;
+mod band;
 pub mod header;
-pub mod page;
+mod page;
 
 use band::bands_refusal;
 use header::header_refusal;

@@ -25,7 +25,7 @@ fn refused(refusal: u8) -> Shape
 }
 
 // Questions 10 to 12 of the page at `at` with so many roots, after a page of `previous` nodes.
-pub fn check_shape(image: &[u8], at: usize, roots: usize, previous: usize) -> Shape
+fn check_shape(image: &[u8], at: usize, roots: usize, previous: usize) -> Shape
     requires { ⌜ (at + 64 ≤ length (now image)) × (1 ≤ roots) × (roots ≤ 60) × (previous ≤ 241) ⌝ }
     ensures { λ r. ⌜ Shaped (pairsAt (now (image .entry)) at) roots previous r ⌝ }
 {
@@ -45,14 +45,13 @@ pub fn check_shape(image: &[u8], at: usize, roots: usize, previous: usize) -> Sh
     if !nodes::none_empty(&words.word, end) {
         return refused(10);
     }
-    let all_on = nodes::on_bits(&words.before);
-    if nodes::on_bits_before(&words.word, &words.before, end) != all_on {
+    if !nodes::rest_empty(&words.word, &words.before, end) {
         return refused(11);
     }
     let found = Shape {
         refusal: 0,
         nodes: end,
-        links: all_on - fourth_on,
+        links: nodes::on_bits(&words.before) - fourth_on,
     };
     // The smallest subtrie has four nodes: after so full a page none can fit.
     if 236 < previous {
@@ -69,7 +68,7 @@ pub fn check_shape(image: &[u8], at: usize, roots: usize, previous: usize) -> Sh
 
 // Questions 8 to 12 of the page at `at`. Before it stand the band's roots below `t` and its out-links below `links`, `next` is the first root after it, and
 // the page before has `previous` nodes: 241 in a band's first page, which is always needed.
-pub fn check_page(
+pub(crate) fn check_page(
     image: &[u8],
     at: usize,
     t: Root,

@@ -4,7 +4,8 @@ use mathlib.Core.Path.{_≡_, refl, sym, ap, _∙_, subst}
 use mathlib.Core.Bool.{Bool, true, false}
 use mathlib.Core.Logic.{_⊎_, inl, inr, ⊎-elim}
 use mathlib.Core.List.{List, [], _∷_, _++_, List·Memᴰ, List·Memᴰ·head, List·Memᴰ·tail, List·Memᴰ·not-nil, List·Memᴰ·cases-cons}
-use Prim.Native.Nat.{ℕ, _^_, _<_}
+use Prim.Native.Nat.{ℕ, suc, _^_, _≤_, _<_}
+use lib.ListN.{length}
 use native.Mathlib.Omega.{arith}
 use lib.Dec.{ltb}
 use borrow.Author.Tests.{ltb-true, lt-ltb}
@@ -174,3 +175,13 @@ pub select-whole : (f : ℕ → Bool) (l : List ℕ) → All (λ k. f k ≡ true
 unfolding select consIf
 select-whole f [] h = refl
 select-whole f (x ∷ l) h = rw (h .0) (ap (x ∷_) (select-whole f l (h .1)))
+
+-- no more elements than there were
+pub select-short : (f : ℕ → Bool) (xs : List ℕ) → length (select f xs) ≤ length xs
+unfolding select consIf
+select-short f [] = omega arith
+select-short f (x ∷ xs) = go (f x) (select-short f xs)
+  where
+    go : (t : Bool) → length (select f xs) ≤ length xs → length (consIf t x (select f xs)) ≤ suc (length xs)
+    go true h = omega arith
+    go false h = omega arith

@@ -2,15 +2,16 @@
 use mathlib.Core.Path.{_≡_, ap, _∙_}
 use mathlib.Core.List.{List}
 use Prim.Native.Nat.{ℕ, _+_, _≤_, _<_}
-use lib.ListN.{length, getD, take}
+use lib.ListN.{length, getD, take, drop}
 use Rattle.format.specs.Seq.{All, every}
 use Rattle.format.specs.Trie.{onBits}
 use Rattle.format.specs.Page.{Byte}
-use Rattle.format.specs.Question.{isPositive}
+use Rattle.format.specs.Question.{isPositive, isZero}
 use Rattle.nodes.specs.declared.Words.{Words}
-use Rattle.nodes.specs.Words.{wordsOf, onesBefore, nodeIn, noneEmpty}
+use Rattle.nodes.specs.Words.{wordsOf, onesBefore, restEmpty, nodeIn, noneEmpty}
 use Rattle.nodes.proofs.Gathered.{nodesAt, on-bits-law, total-law, node-law}
 use Rattle.nodes.proofs.Used.{none-empty-law}
+use Rattle.nodes.proofs.Rest.{rest-empty-words}
 
 module _ (bytes : List ℕ) (small : All Byte bytes) (at : ℕ) (fits : at + 64 ≤ length bytes) (words : Words) (gathered : words ≡ wordsOf bytes at) where
   -- on_bits_before
@@ -28,3 +29,7 @@ module _ (bytes : List ℕ) (small : All Byte bytes) (at : ℕ) (fits : at + 64 
   -- none_empty
   pub none-found-empty : (n : ℕ) → n ≤ 240 → noneEmpty (words .word) n ≡ every isPositive (take n (nodesAt bytes at))
   none-found-empty n h = ap (λ (w : Words). noneEmpty (w .word) n) gathered ∙ none-empty-law bytes small at n fits h
+
+  -- rest_empty
+  pub rest-found-empty : (n : ℕ) → n ≤ 240 → restEmpty (words .word) (words .before) n ≡ every isZero (drop n (nodesAt bytes at))
+  rest-found-empty n h = ap (λ (w : Words). restEmpty (w .word) (w .before) n) gathered ∙ rest-empty-words bytes small at n fits h

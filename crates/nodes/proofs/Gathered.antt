@@ -234,3 +234,10 @@ module _ (bytes : List ℕ) (small : All Byte bytes) where
         ∙ ap onBits whole
         ∙ onBits-append (replicate 16 0) (nodesAt bytes at)
         ∙ (unfold onBits bits in zero-add (onBits (nodesAt bytes at)))
+
+    -- word 7 has the last 32 nodes
+    pub last-word : getD (wordsIn bytes at) 7 0 ≡ val 0 (drop 208 (nodesAt bytes at))
+    last-word = word-is 7 (omega arith) ∙ ap (val 0) last-part
+      where
+        last-part : part 7 ≡ drop 208 (nodesAt bytes at)
+        last-part = unfold part qs in take-all 32 (drop 208 (nodesAt bytes at)) (omega (arith, length-drop 208 (nodesAt bytes at), length-nodes))

@@ -181,7 +181,7 @@ none-empty-law bytes small at n fits h =
 -- ---- 00 throughout
 
 -- nodes without an on bit are 00
-all-empty : (ds : List ℕ) → eqb (onBits ds) 0 ≡ every isZero ds
+pub all-empty : (ds : List ℕ) → eqb (onBits ds) 0 ≡ every isZero ds
 unfolding onBits bits every isZero
 all-empty [] = refl
 all-empty (zero ∷ ds) = ap (λ (x : ℕ). eqb x 0) (zero-add (onBits ds)) ∙ all-empty ds

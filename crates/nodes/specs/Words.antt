@@ -44,6 +44,13 @@ wordsOf bytes at = record { word = wordsIn bytes at; before = countsBefore 0 (wo
 unfoldable pub onesBefore : List ℕ → List ℕ → ℕ → ℕ
 onesBefore word before n = getD before ((n + 16) / 32) 0 + ones (getD word ((n + 16) / 32) 0 / 2 ^ (64 - 2 * ((n + 16) % 32)))
 
+-- whether the nodes from n on are all 00: after node 208 word 7 tells, else the on bits before n are compared with all
+unfoldable pub restEmpty : List ℕ → List ℕ → ℕ → Bool
+restEmpty word before n =
+    cond (ltb 208 n)
+    (eqb (getD word 7 0 / 2 ^ (64 - 2 * (n - 208)) * 2 ^ (64 - 2 * (n - 208)) % 2 ^ 64) (getD word 7 0))
+    (eqb (onesBefore word before n) (getD before 8 0))
+
 -- node n
 unfoldable pub nodeIn : List ℕ → ℕ → ℕ
 nodeIn word n = getD word ((n + 16) / 32) 0 / 2 ^ (62 - 2 * ((n + 16) % 32)) % 4

@@ -5,7 +5,7 @@ ghost use mathlib.Core.List.{[], _∷_};
 ghost use Prim.Native.Nat.{_+_, _-_, _*_, _≤_, _<_};
 ghost use lib.ListN.{length, getD};
 ghost use lib.Count.{ones};
-ghost use Rattle.nodes.specs.Words.{halfAt, wordAt, wordsOf, countsBefore, onesBefore, nodeIn, usedNodes, noneEmpty};
+ghost use Rattle.nodes.specs.Words.{halfAt, wordAt, wordsOf, countsBefore, onesBefore, restEmpty, nodeIn, usedNodes, noneEmpty};
 
 // A page's nodes, the first in the highest bits: 16 in the low half of word 0, 32 in each of words 1 to 7; word 8 is 0. `before` has the on bits of
 // the words before each.
@@ -132,6 +132,18 @@ pub fn node_at(word: &[u64; 9], n: usize) -> u64
 {
     let place = n + 16;
     (word[place / 32] >> (62 - 2 * (place % 32))) % 4
+}
+
+// Whether the nodes from `n` on are all 00. In a nearly full page word 7 alone tells.
+pub fn rest_empty<'a>(word: &'a [u64; 9], before: &'a [u16; 9], n: usize) -> bool
+    requires { ⌜ n ≤ 240 ⌝ }
+    ensures { λ r. ⌜ r ≡ restEmpty (now (word .entry)) (now (before .entry)) n ⌝ }
+{
+    if 208 < n {
+        let shift = 64 - 2 * (n - 208);
+        return (word[7] >> shift) << shift == word[7];
+    }
+    on_bits_before(word, before, n) == on_bits(before)
 }
 
 // The low bit of each node of `w` that is not 00.

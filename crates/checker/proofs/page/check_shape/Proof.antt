@@ -66,38 +66,38 @@ fourth-known : (c : tie.After-on-bits-before3)
 fourth-known c = fourth (third-known (g₃ c)) (c .before .before .before .before .if1 .left) (a₃ c) (c .on-bits-before3 .ensures .0)
 
 -- past questions 10 and 11
-abbrev g₄ : tie.Else4 → tie.After-on-bits-before3
+abbrev g₄ : tie.After-on-bits → tie.After-on-bits-before3
 g₄ c = c .before .before .before .before .before .before .before .before .before .before .before .before .before
 
-abbrev a₄ : tie.Else4 → ℕ
-a₄ c = c .before .before .before .before .before .on-bits .result
+abbrev a₄ : tie.After-on-bits → ℕ
+a₄ c = c .on-bits .result
 
-ended-known : (c : tie.Else4)
+ended-known : (c : tie.After-on-bits)
     → Ended (bytes (g₁ (g₂ (g₃ (g₄ c))))) (place (g₁ (g₂ (g₃ (g₄ c))))) (roots (g₁ (g₂ (g₃ (g₄ c))))) (words (g₁ (g₂ (g₃ (g₄ c))))) (a₁ (g₂ (g₃ (g₄ c)))) (a₂ (g₃ (g₄ c))) (a₃ (g₄ c)) (a₄ c)
 ended-known c =
-    ended (fourth-known (g₄ c)) (c .before .before .before .before .before .before .before .before .before .before .before .before .if2 .left) _ (c .before .before .before .before .before .before .before .before .before .none-empty .ensures) (not-false _ (c .before .before .before .before .before .before .before .before .if3 .left)) (a₄ c) _ (c .before .before .before .before .before .on-bits .ensures .0)
-    (c .before .on-bits-before4 .ensures .0) (c .if4 .left)
+    ended (fourth-known (g₄ c)) (c .before .before .before .before .before .before .before .before .before .before .before .before .if2 .left) _ (c .before .before .before .before .before .before .before .before .before .none-empty .ensures) (not-false _ (c .before .before .before .before .before .before .before .before .if3 .left)) _ (c .before .before .before .before .rest-empty .ensures) (not-false _ (c .before .before .before .if4 .left)) (a₄ c)
+    (c .on-bits .ensures .0)
 
 -- the first subtrie
-abbrev f₂ : tie.After-on-bits-before5 → ℕ
-f₂ c = c .on-bits-before5 .result
+abbrev f₂ : tie.After-on-bits-before4 → ℕ
+f₂ c = c .on-bits-before4 .result
 
-first-second-known : (c : tie.After-on-bits-before5) → (f₂ c ≡ marks (pairsAt (bytes (g₁ (g₂ (g₃ (g₄ (c .before .before .before .before .before)))))) (place (g₁ (g₂ (g₃ (g₄ (c .before .before .before .before .before))))))) 1) × (f₂ c ≤ 2)
-first-second-known c = first-second (ended-known (c .before .before .before .before .before)) (f₂ c) (c .on-bits-before5 .ensures .0)
+first-second-known : (c : tie.After-on-bits-before4) → (f₂ c ≡ marks (pairsAt (bytes (g₁ (g₂ (g₃ (g₄ (c .before .before .before .before .before)))))) (place (g₁ (g₂ (g₃ (g₄ (c .before .before .before .before .before))))))) 1) × (f₂ c ≤ 2)
+first-second-known c = first-second (ended-known (c .before .before .before .before .before)) (f₂ c) (c .on-bits-before4 .ensures .0)
 
-abbrev x₃ : tie.After-on-bits-before6 → ℕ
-x₃ c = c .on-bits-before6 .result
+abbrev x₃ : tie.After-on-bits-before5 → ℕ
+x₃ c = c .on-bits-before5 .result
 
-first-third-known : (c : tie.After-on-bits-before6)
+first-third-known : (c : tie.After-on-bits-before5)
     → (x₃ c ≡ marks (pairsAt (bytes (g₁ (g₂ (g₃ (g₄ (c .before .before .before .before .before .before .before .before .before)))))) (place (g₁ (g₂ (g₃ (g₄ (c .before .before .before .before .before .before .before .before .before))))))) (roots (g₁ (g₂ (g₃ (g₄ (c .before .before .before .before .before .before .before .before .before))))) + f₂ (c .before .before .before .before))) × (a₁ (g₂ (g₃ (g₄ (c .before .before .before .before .before .before .before .before .before)))) ≤ x₃ c) × (x₃ c - a₁ (g₂ (g₃ (g₄ (c .before .before .before .before .before .before .before .before .before)))) ≤ 4)
-first-third-known c = first-third (ended-known (c .before .before .before .before .before .before .before .before .before)) (f₂ (c .before .before .before .before)) (x₃ c) (first-second-known (c .before .before .before .before) .1) (c .on-bits-before6 .ensures .0)
+first-third-known c = first-third (ended-known (c .before .before .before .before .before .before .before .before .before)) (f₂ (c .before .before .before .before)) (x₃ c) (first-second-known (c .before .before .before .before) .1) (c .on-bits-before5 .ensures .0)
 
-abbrev x₄ : tie.After-on-bits-before7 → ℕ
-x₄ c = c .on-bits-before7 .result
+abbrev x₄ : tie.After-on-bits-before6 → ℕ
+x₄ c = c .on-bits-before6 .result
 
-first-fourth-known : (c : tie.After-on-bits-before7)
+first-fourth-known : (c : tie.After-on-bits-before6)
     → (x₄ c ≡ marks (pairsAt (bytes (g₁ (g₂ (g₃ (g₄ (c .before .before .before .before .before .before .before .before .before .before .before .before .before)))))) (place (g₁ (g₂ (g₃ (g₄ (c .before .before .before .before .before .before .before .before .before .before .before .before .before))))))) (roots (g₁ (g₂ (g₃ (g₄ (c .before .before .before .before .before .before .before .before .before .before .before .before .before))))) + a₁ (g₂ (g₃ (g₄ (c .before .before .before .before .before .before .before .before .before .before .before .before .before)))) + (x₃ (c .before .before .before .before) - a₁ (g₂ (g₃ (g₄ (c .before .before .before .before .before .before .before .before .before .before .before .before .before))))))) × (a₂ (g₃ (g₄ (c .before .before .before .before .before .before .before .before .before .before .before .before .before))) ≤ x₄ c) × (x₄ c - a₂ (g₃ (g₄ (c .before .before .before .before .before .before .before .before .before .before .before .before .before))) ≤ 8)
-first-fourth-known c = first-fourth (ended-known (c .before .before .before .before .before .before .before .before .before .before .before .before .before)) (x₃ (c .before .before .before .before) - a₁ (g₂ (g₃ (g₄ (c .before .before .before .before .before .before .before .before .before .before .before .before .before))))) (x₄ c) (first-third-known (c .before .before .before .before) .2) (c .on-bits-before7 .ensures .0)
+first-fourth-known c = first-fourth (ended-known (c .before .before .before .before .before .before .before .before .before .before .before .before .before)) (x₃ (c .before .before .before .before) - a₁ (g₂ (g₃ (g₄ (c .before .before .before .before .before .before .before .before .before .before .before .before .before))))) (x₄ c) (first-third-known (c .before .before .before .before) .2) (c .on-bits-before6 .ensures .0)
 
 on-bits-before-requires-2 : tie.Need-on-bits-before-requires-2
 on-bits-before-requires-2 c κs = omega (arith, second-known (c .before .before .before))
@@ -112,7 +112,7 @@ returns-3 : tie.Need-returns-3
 returns-3 c = refused-shape _ (empty-found (fourth-known (c .before .before .before .before .before .before)) (c .before .before .before .before .before .if2 .left) _ (c .before .before .none-empty .ensures) (not-true _ (c .before .if3 .taken)) _) (c .refused3 .ensures)
 
 returns-4 : tie.Need-returns-4
-returns-4 c = refused-shape _ (rest-found (fourth-known (c .before .before .before .before .before .before .before .before .before .before .before .before .before .before)) (c .before .before .before .before .before .before .before .before .before .before .before .before .before .if2 .left) _ (c .before .before .before .before .before .before .before .before .before .before .none-empty .ensures) (not-false _ (c .before .before .before .before .before .before .before .before .before .if3 .left)) _ _ (c .before .before .before .before .before .before .on-bits .ensures .0) (c .before .before .on-bits-before4 .ensures .0) (c .before .if4 .taken) _) (c .refused4 .ensures)
+returns-4 c = refused-shape _ (rest-found (fourth-known (c .before .before .before .before .before .before .before .before .before .before .before)) (c .before .before .before .before .before .before .before .before .before .before .if2 .left) _ (c .before .before .before .before .before .before .before .none-empty .ensures) (not-false _ (c .before .before .before .before .before .before .if3 .left)) _ (c .before .before .rest-empty .ensures) (not-true _ (c .before .if4 .taken)) _) (c .refused4 .ensures)
 
 sub-first3 : tie.Need-sub-first3
 sub-first3 c = links-few (ended-known c)
@@ -120,8 +120,8 @@ sub-first3 c = links-few (ended-known c)
 returns-5 : tie.Need-returns-5
 returns-5 c = after-full (ended-known (c .before)) _ (c .if5 .taken)
 
-on-bits-before-requires-6 : tie.Need-on-bits-before-requires-6
-on-bits-before-requires-6 c κs = omega (arith, first-second-known (c .before .before .before), second-known (g₂ (g₃ (g₄ (c .before .before .before .before .before .before .before .before)))))
+on-bits-before-requires-5 : tie.Need-on-bits-before-requires-5
+on-bits-before-requires-5 c κs = omega (arith, first-second-known (c .before .before .before), second-known (g₂ (g₃ (g₄ (c .before .before .before .before .before .before .before .before)))))
 
 sub-first3-2 : tie.Need-sub-first3-2
 sub-first3-2 c = first-third-known c .1
@@ -129,8 +129,8 @@ sub-first3-2 c = first-third-known c .1
 add-on-bits-before-2 : tie.Need-add-on-bits-before-2
 add-on-bits-before-2 c = omega (arith, first-third-known (c .before .before .before), second-known (g₂ (g₃ (g₄ (c .before .before .before .before .before .before .before .before .before .before .before .before)))))
 
-on-bits-before-requires-7 : tie.Need-on-bits-before-requires-7
-on-bits-before-requires-7 c κs = omega (arith, first-third-known (c .before .before .before), second-known (g₂ (g₃ (g₄ (c .before .before .before .before .before .before .before .before .before .before .before .before)))))
+on-bits-before-requires-6 : tie.Need-on-bits-before-requires-6
+on-bits-before-requires-6 c κs = omega (arith, first-third-known (c .before .before .before), second-known (g₂ (g₃ (g₄ (c .before .before .before .before .before .before .before .before .before .before .before .before)))))
 
 sub-first4 : tie.Need-sub-first4
 sub-first4 c = first-fourth-known c .1
@@ -161,16 +161,16 @@ check-shape-spec =
     returns-3
     (λ c κs. search needs)
     (λ c κs. search needs)
-    (λ c κs. search needs)
     returns-4
+    (λ c κs. search needs)
     sub-first3
     returns-5
     (λ c κs. search needs)
     (λ c. search needs)
-    on-bits-before-requires-6
+    on-bits-before-requires-5
     sub-first3-2
     add-on-bits-before-2
-    on-bits-before-requires-7
+    on-bits-before-requires-6
     sub-first4
     (λ c. search needs)
     (λ c. search needs)

@@ -1,0 +1,33 @@
+-- How outcomes are handed to C: the value, or the negated number of the question that got a no.
+-- Assumes nothing.
+use mathlib.Core.List.{List, [], _∷_, _++_}
+use Prim.Native.Nat.{ℕ, _+_, _*_}
+use lib.IntN.{ℤ, pos, negℤ}
+use Rattle.format.specs.declared.Rectangle.{Rectangle}
+use Rattle.format.specs.Question.{Outcome, refused, returns}
+use Rattle.format.specs.Answer.{LookupAnswer, absent, listed}
+
+abbrev pub encoded : Outcome ℕ → ℤ
+encoded (returns n) = pos n
+encoded (refused n) = negℤ (pos n)
+
+-- lookup: 1 where the admission is listed, 0 where it is absent
+abbrev pub encodedLookup : Outcome LookupAnswer → ℤ
+encodedLookup (returns (listed rank pages)) = pos 1
+encodedLookup (returns absent) = pos 0
+encodedLookup (refused n) = negℤ (pos n)
+
+-- and the nine places: the rank and the page numbers where it is listed, else what they held
+abbrev pub lookupBuffer : Outcome LookupAnswer → List ℕ → List ℕ
+lookupBuffer (returns (listed rank pages)) buffer = rank ∷ pages
+lookupBuffer (returns absent) buffer = buffer
+lookupBuffer (refused n) buffer = buffer
+
+-- finding by rank: holder and slot in one number
+abbrev pub encodedFind : Outcome (ℕ × ℕ) → ℤ
+encodedFind (returns a) = pos (a .0 * 65536 + a .1)
+encodedFind (refused n) = negℤ (pos n)
+
+-- the rectangle of holders h0 to h1 and slots s0 to s1
+abbrev pub rectangleOf : ℕ → ℕ → ℕ → ℕ → Rectangle
+rectangleOf h0 h1 s0 s1 = record { holders = record { low = h0; high = h1 }; slots = record { low = s0; high = s1 } }

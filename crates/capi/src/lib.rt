@@ -1,0 +1,137 @@
+// The C interface, as include/lpt.h declares it: an answer of 0 or more, or -n where question n got a no.
+ghost use mathlib.Core.Path.{_≡_};
+ghost use mathlib.Core.List.{_∷_};
+ghost use Prim.Native.Nat.{_<_};
+ghost use lib.IntN.{pos, negℤ};
+ghost use Rattle.format.specs.Writer;
+ghost use Rattle.format.specs.Answer;
+ghost use Rattle.format.specs.Scan;
+ghost use Rattle.capi.specs.Encoding.{encoded, encodedLookup, lookupBuffer, encodedFind, rectangleOf};
+use checker::Checked;
+use format::Admission;
+use format::Range;
+use format::Rectangle;
+use gate::Scanned;
+use query::ByRank;
+use query::Members;
+use query::Presence;
+use writer::Written;
+
+// The answer of a question that got a no.
+fn refusal(n: u8) -> i64
+    ensures { λ r. ⌜ r ≡ negℤ (pos n) ⌝ }
+{
+    0 - n as i64
+}
+
+// The answer of a job that returns a number.
+fn answer(n: usize) -> i64
+    requires { ⌜ n < 9223372036854775808 ⌝ }
+    ensures { λ r. ⌜ r ≡ pos n ⌝ }
+{
+    n as i64
+}
+
+fn rectangle_of(h0: u16, h1: u16, s0: u16, s1: u16) -> Rectangle
+    ensures { λ r. ⌜ r ≡ rectangleOf h0 h1 s0 s1 ⌝ }
+{
+    Rectangle {
+        holders: Range { low: h0, high: h1 },
+        slots: Range { low: s0, high: s1 },
+    }
+}
+
+#[no_mangle]
+pub extern "C" fn lpt_check(img: &[u8]) -> i64
+    ensures { λ r. ⌜ r ≡ encoded (Answer.check (now (img .entry))) ⌝ }
+{
+    match checker::check(img) {
+        Checked::Accepted(n) => answer(n),
+        Checked::Refused(n) => refusal(n),
+    }
+}
+
+// The rank and the page numbers in the nine places.
+fn fill(out: &mut [u32; 9], rank: u32, pages: [u32; 8])
+    ensures { λ _. ⌜ now (out .exit) ≡ rank ∷ pages ⌝ }
+{
+    *out = [
+        rank,
+        pages[0],
+        pages[1],
+        pages[2],
+        pages[3],
+        pages[4],
+        pages[5],
+        pages[6],
+        pages[7],
+    ];
+}
+
+#[no_mangle]
+pub extern "C" fn lpt_lookup(img: &[u8], holder: u16, slot: u16, out: &mut [u32; 9]) -> i64
+    ensures { λ r. ⌜ (r ≡ encodedLookup (Answer.lookup (now (img .entry)) holder slot)) × (now (out .exit) ≡ lookupBuffer (Answer.lookup (now (img .entry)) holder slot) (now (out .entry))) ⌝ }
+{
+    let found = query::lookup(img, holder, slot);
+    let presence = found.answer;
+    match presence {
+        Presence::Listed(rank) => {
+            let pages = found.pages;
+            fill(out, rank, pages);
+            return 1;
+        }
+        Presence::Absent => {
+            return 0;
+        }
+        Presence::Refused(n) => {
+            return refusal(n);
+        }
+    }
+}
+
+#[no_mangle]
+pub extern "C" fn lpt_count(img: &[u8], h0: u16, h1: u16, s0: u16, s1: u16) -> i64
+    ensures { λ r. ⌜ r ≡ encoded (Answer.count (now (img .entry)) (rectangleOf h0 h1 s0 s1)) ⌝ }
+{
+    match query::count(img, rectangle_of(h0, h1, s0, s1)) {
+        Members::Count(n) => answer(n),
+        Members::Refused(n) => refusal(n),
+    }
+}
+
+#[no_mangle]
+pub extern "C" fn lpt_list(img: &[u8], h0: u16, h1: u16, s0: u16, s1: u16, keys: &mut [u32]) -> i64
+    ensures { λ r. ⌜ (r ≡ encoded (Answer.listing (now (img .entry)) (rectangleOf h0 h1 s0 s1) (now (keys .entry)))) × (now (keys .exit) ≡ Answer.bufferAfterListing (now (img .entry)) (rectangleOf h0 h1 s0 s1) (now (keys .entry))) ⌝ }
+{
+    match query::list(img, rectangle_of(h0, h1, s0, s1), keys) {
+        Members::Count(n) => answer(n),
+        Members::Refused(n) => refusal(n),
+    }
+}
+
+#[no_mangle]
+pub extern "C" fn lpt_find(img: &[u8], rank: u32) -> i64
+    ensures { λ r. ⌜ r ≡ encodedFind (Answer.find (now (img .entry)) rank) ⌝ }
+{
+    match query::find(img, rank) {
+        ByRank::At(a) => answer((a.holder as usize) * 65536 + a.slot as usize),
+        ByRank::Refused(n) => refusal(n),
+    }
+}
+
+#[no_mangle]
+pub extern "C" fn lpt_scan(
+    img: &[u8],
+    rec: &mut [u32],
+    holder: u16,
+    slot: u16,
+    time: u32,
+    lockout: u32,
+) -> i64
+    ensures { λ r. ⌜ (r ≡ encoded (Scan.scan (now (img .entry)) (now (rec .entry)) holder slot time lockout)) × (now (rec .exit) ≡ Scan.recordsAfterScan (now (img .entry)) (now (rec .entry)) holder slot time lockout) ⌝ }
+{
+    match gate::scan(img, rec, holder, slot, time, lockout) {
+        Scanned::Opened(rank) => answer(rank as usize),
+        Scanned::Refused(n) => refusal(n),
+    }
+}
