@@ -3,8 +3,8 @@
 use mathlib.Core.Bool.{Bool, true, false, _&&_}
 use mathlib.Core.List.{List, [], _∷_, _++_, List·Memᴰ, List·Memᴰ·head, List·Memᴰ·tail, List·Memᴰ·not-nil, List·Memᴰ·cases-cons}
 use mathlib.Core.Logic.{⊎-elim}
-use mathlib.Core.Path.{_≡_, refl, sym, ap, ap₂, _∙_}
-use Prim.Native.Nat.{ℕ, zero, suc, _+_, _≤_, _<_}
+use mathlib.Core.Path.{_≡_, refl, sym, ap, _∙_}
+use Prim.Native.Nat.{ℕ, suc, _+_, _≤_, _<_}
 use native.Mathlib.Decide.{decLe, decLt}
 use native.Mathlib.Omega.{arith}
 use borrow.Author.Tests.{le-leb, lt-leb, lt-ltb, le-ltb}
@@ -14,7 +14,7 @@ use Rattle.format.specs.Seq.{All, consIf, select}
 use Rattle.format.specs.Image.{keysOf}
 use Rattle.format.specs.Answer.{inside}
 use Rattle.format.proofs.Lists.{and-both}
-use Rattle.format.proofs.Trie.{Above, Asc}
+use Rattle.format.proofs.Trie.{Asc}
 use Rattle.format.proofs.Members.{asc-tail, above-mem, select-append, select-none}
 use Rattle.query.specs.Walk.{between, membersBetween}
 

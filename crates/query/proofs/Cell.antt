@@ -2,36 +2,21 @@
 -- Assumes nothing.
 use mathlib.Core.Bool.{Bool, true, false}
 use mathlib.Core.List.{List, List·Memᴰ, Memᴰ·cast}
-use mathlib.Core.Path.{_≡_, refl, sym, ap, ap₂, subst, _∙_}
+use mathlib.Core.Path.{_≡_, refl, sym, ap, subst, _∙_}
 use Prim.Native.Nat.{ℕ, zero, suc, _+_, _-_, _*_, _/_, _%_, _≤_, _<_}
 use native.Mathlib.Decide.{decLt, ℕ-discrete}
 use native.Mathlib.Omega.{arith}
-use lib.ListN.{length, getD}
+use lib.ListN.{getD}
 use Rattle.format.specs.Seq.{isIn, rankIn}
 use Rattle.format.specs.Image.{pageNodes, pagePairs}
 use Rattle.format.proofs.Descent.{bit, childAt, child-of-mem, mem-at}
 use Rattle.format.proofs.Levels.{prefixesAt, levelAt, depth, childPlace, prefixes-asc, prefixes-next, level-valid, next-prefix, next-within}
 use Rattle.format.proofs.Walk.{Reached, Out, outLink, prefix-rank, reached-node, reached-index, reached-valid, reached-off, reached-child, reached-out}
 use Rattle.query.specs.Page.{Ready}
+use Rattle.query.specs.Cell.{ReachedTo, Cell}
 use Rattle.query.specs.Subtrie.{asBit}
 use Rattle.query.proofs.Pages.{bytes, checked}
 use Rattle.query.proofs.Ranks.{Tested, member, stranger, tested, rank-first}
-
--- a node of level l with prefix y
-pub record ReachedTo (img : List ℕ) (b i l y : ℕ) : Type 0 where
-  pub p : ℕ
-  pub n : ℕ
-  pub way : Reached img b i l p n y
-
--- Place p is the first node of level l of a subtrie: of the nodes whose prefixes are the w from `base` on, which all stand in the page.
-pub record Cell (img : List ℕ) (b i l w base p : ℕ) : Type 0 where
-  pub n : ℕ
-  pub y : ℕ
-  pub way : Reached img b i l p n y
-  pub lower : base ≤ y
-  pub upper : y < base + w
-  pub first : (z : ℕ) → List·Memᴰ z (prefixesAt img (depth b l)) → z < y → z < base
-  pub all : (z : ℕ) → List·Memᴰ z (prefixesAt img (depth b l)) → base ≤ z → z < base + w → ReachedTo img b i l z
 
 -- the first on bit of a node
 record FirstBit (v : ℕ) : Type 0 where
@@ -70,9 +55,6 @@ module _ (img : List ℕ) (r : Ready img) where
       unfolding asBit
       bit-is t le = go (isIn (2 * y + t) (prefixesAt img (suc (depth b l)))) (tested (2 * y + t) (prefixesAt img (suc (depth b l))))
         where
-          v : ℕ
-          v = getD (pagePairs img b i) p 0
-
           one : (t : ℕ) → t ≤ 1 → bit t (getD (pagePairs img b i) p 0) ≤ 1
           one zero le = omega (arith, reached-valid img (bytes r) (checked r) (r .some) b lo hi i l p n y w .1)
           one (suc t) le = omega arith
@@ -170,7 +152,7 @@ module _ (img : List ℕ) (r : Ready img) where
           (λ z m lt. first-below z (subst (λ (k : ℕ). List·Memᴰ z (prefixesAt img k)) (sym d) m) (omega (arith, o .prefix))))
 
       -- a node of the level stands after as many as prefixes lie between
-      cell-rank : c .n ≡ rankIn (prefixesAt img (depth b l)) base
+      pub cell-rank : c .n ≡ rankIn (prefixesAt img (depth b l)) base
       cell-rank =
           let k = reached-index img (bytes r) (checked r) (r .some) b lo hi i l p (c .n) (c .y) (c .way) in
           sym (rank-first (prefixesAt img (depth b l)) (c .n) base (prefixes-asc img (bytes r) (checked r) (r .some) (depth b l)) k (omega (arith, c .way .prefix, c .lower))

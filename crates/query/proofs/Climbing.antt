@@ -7,8 +7,8 @@ use native.Mathlib.Numerals.{add-one}
 use native.Mathlib.Decide.{decLt}
 use native.Mathlib.Omega.{arith}
 use lib.ListN.{length, getD}
-use Rattle.format.specs.Image.{outLinkCount, pageB, pageCount, pageLevels, pageNodes, pagePairs, pageRoots, pageT}
-use Rattle.format.proofs.Counting.{marks, marks-mono, page-nodes-counted}
+use Rattle.format.specs.Image.{outLinkCount, pageCount, pageLevels, pageNodes, pagePairs, pageRoots, pageT}
+use Rattle.format.proofs.Counting.{marks, page-nodes-counted}
 use Rattle.format.proofs.Descent.{bit, childAt, onBits-suc}
 use Rattle.format.proofs.Read.{pairs-240}
 use Rattle.format.proofs.Places.{offset}
@@ -143,12 +143,6 @@ climb-start r d n first e from to =
     }
 
 module _ {img : List ℕ} {page : Page} {words : Words} {place₀ place bits unit level : ℕ} (s : Climb img page words place₀ place bits unit level) where
-  b : ℕ
-  b = page .band
-
-  i : ℕ
-  i = page .index
-
   counted-at : (p : ℕ) → p ≤ 240 → onesBefore (words .word) (words .before) p ≡ marks (pagePairs img (page .band) (page .index)) p
   counted-at p h = ap (λ (w : Words). onesBefore (w .word) (w .before) p) (s .words-are) ∙ page-marks (s .ready) (s .read) p h
 

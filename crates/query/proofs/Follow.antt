@@ -9,7 +9,7 @@ use native.Mathlib.Omega.{arith}
 use lib.ListN.{length, getD, take}
 use Rattle.format.specs.Trie.{onBits}
 use Rattle.format.specs.Answer.{absent, lookupAnswer}
-use Rattle.format.specs.Image.{pageNodes, pagePairs, pageRoots, pageT}
+use Rattle.format.specs.Image.{pagePairs, pageT}
 use Rattle.format.proofs.Read.{page-within}
 use Rattle.format.proofs.Counting.{marks}
 use Rattle.format.proofs.Descent.{bit}
@@ -107,9 +107,6 @@ module _ {img : List ℕ} {page : Page} {key place level : ℕ} (s : Follow img 
       where
         d : PageRead img page
         d = s .read
-
-        t : ℕ
-        t = keyBit key (depth (page .band) level)
 
         go : OnWay img (page .band) (page .index) key level place
             → OnWay img (page .band) (page .index) key (suc level) (childPlace img (page .band) (page .index) place (keyBit key (depth (page .band) level)))

@@ -1,21 +1,20 @@
 -- The jobs' outcomes from the checker's answer and from what the walks find.
 -- Assumes nothing.
-use mathlib.Core.Bool.{Bool, true, false, _&&_, cond}
+use mathlib.Core.Bool.{true, false}
 use mathlib.Core.List.{List, [], _∷_, _++_, map}
-use mathlib.Core.Option.{none, some}
-use mathlib.Core.Path.{_≡_, refl, sym, ap, ap₂, subst, _∙_}
+use mathlib.Core.Path.{_≡_, refl, sym, ap, ap₂, _∙_}
 use Prim.Native.Nat.{ℕ, _≤_, _<_}
 use native.Mathlib.Omega.{arith}
 use borrow.Author.Tests.{le-leb, lt-leb, lt-ltb, le-ltb}
 use lib.Dec.{leb, ltb}
-use lib.ListN.{length, getD, drop, replicate, List·getD-map}
+use lib.ListN.{length, getD, replicate, List·getD-map}
 use Rattle.format.specs.declared.Rectangle.{Rectangle}
 use Rattle.format.specs.Seq.{All}
 use Rattle.format.specs.Page.{Byte}
 use Rattle.format.specs.Key.{holderOf, keyOf, slotOf, unwoven}
 use Rattle.format.specs.Image.{keyCount, keysOf, listOf}
 use Rattle.format.specs.Question.{Question, Outcome, refused, returns, filled, firstNo, imageQuestions, outcome, settle}
-use Rattle.format.specs.Answer.{absent, bufferAfterListing, check, count, find, listing, lookup, lookupAnswer, memberKeys, placesQuestion, rectangleQuestion}
+use Rattle.format.specs.Answer.{bufferAfterListing, check, count, find, listing, lookup, lookupAnswer, memberKeys, placesQuestion, rectangleQuestion}
 use Rattle.format.proofs.Accepted.{facts}
 use Rattle.format.proofs.Lookup.{place-none}
 use Rattle.checker.specs.declared.Checked.{Checked}

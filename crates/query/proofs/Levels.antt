@@ -1,26 +1,25 @@
 -- The levels of a subtrie as sets: what is read under a level's set is the next level's.
 -- Assumes nothing.
 use mathlib.Core.Bool.{Bool, true, false}
-use mathlib.Core.List.{List, [], _∷_, _++_, flatMap, List·Memᴰ, Memᴰ·cast}
-use mathlib.Core.Path.{_≡_, refl, sym, ap, ap₂, subst, _∙_}
+use mathlib.Core.List.{List, [], _∷_, flatMap, List·Memᴰ, Memᴰ·cast}
+use mathlib.Core.Path.{_≡_, refl, sym, ap, ap₂, _∙_}
 use Prim.Native.Nat.{ℕ, zero, suc, _+_, _-_, _*_, _/_, _%_, _^_, _≤_, _<_}
 use native.Mathlib.Nat.{add-zero, div-one, zero-div}
 use native.Mathlib.Omega.{arith}
-use lib.ListN.{length, getD, take, drop}
-use lib.Seq.{getD-drop, getD-take}
+use lib.ListN.{getD}
 use Rattle.format.specs.Seq.{All, isIn, rankIn}
 use Rattle.format.specs.Page.{Byte, pairsOf}
-use Rattle.format.specs.Image.{pageCount, pageNumber, pagePairs}
-use Rattle.format.proofs.Lists.{all-take, all-drop}
-use Rattle.format.proofs.Levels.{prefixesAt, depth, childPlace, prefixes-asc}
-use Rattle.format.proofs.Walk.{Reached, reached-place}
+use Rattle.format.specs.Image.{pagePairs}
+use Rattle.format.proofs.Levels.{prefixesAt, depth, prefixes-asc}
+use Rattle.format.proofs.Walk.{reached-place}
 use Rattle.reader.specs.Page.{nodeOf}
 use Rattle.query.specs.Page.{Ready}
 use Rattle.query.specs.Subtrie.{asBit, setOf, setBit, levelSet, placeAfter, bitsAfter, ifOn}
 use Rattle.query.proofs.Pages.{bytes, checked}
 use Rattle.query.proofs.Ranks.{Tested, member, stranger, tested, rank-next}
 use Rattle.query.proofs.Sets.{set-bit}
-use Rattle.query.proofs.Cell.{Cell, cell-place, node-is, parent-mem}
+use Rattle.query.specs.Cell.{Cell}
+use Rattle.query.proofs.Cell.{cell-place, node-is, parent-mem}
 
 -- the node at a place of a page's bytes
 pub pair-at : (bs : List ℕ) (j : ℕ) → All Byte bs → getD (flatMap pairsOf bs) j 0 ≡ getD bs (j / 4) 0 / 4 ^ (3 - j % 4) % 4
@@ -37,16 +36,10 @@ pair-at (x ∷ bs) (suc (suc (suc (suc j)))) a =
 
 module _ (img : List ℕ) (r : Ready img) (b : ℕ) (lo : 1 ≤ b) (hi : b ≤ 8) (i : ℕ) (page : List ℕ) (read : (j : ℕ) → j < 240 → nodeOf page j ≡ getD (pagePairs img b i) j 0) where
   module _ (l w base p : ℕ) (lv : l < 4) (c : Cell img b i l w base p) where
-    P : List ℕ
-    P = prefixesAt img (depth b l)
-
-    Q : List ℕ
-    Q = prefixesAt img (suc (depth b l))
-
-    record Read (v : ℕ) : Type 0 where
-      place-is : placeAfter (levelSet img (depth b l) base w) w p v + rankIn (prefixesAt img (depth b l)) base ≡ p + rankIn (prefixesAt img (depth b l)) (base + v)
-      bits-are : bitsAfter page (levelSet img (depth b l) base w) w p v ≡ setOf (λ u. isIn (2 * base + u) (prefixesAt img (suc (depth b l)))) (2 * v)
-      small : placeAfter (levelSet img (depth b l) base w) w p v ≤ 240
+    pub record Read (v : ℕ) : Type 0 where
+      pub place-is : placeAfter (levelSet img (depth b l) base w) w p v + rankIn (prefixesAt img (depth b l)) base ≡ p + rankIn (prefixesAt img (depth b l)) (base + v)
+      pub bits-are : bitsAfter page (levelSet img (depth b l) base w) w p v ≡ setOf (λ u. isIn (2 * base + u) (prefixesAt img (suc (depth b l)))) (2 * v)
+      pub small : placeAfter (levelSet img (depth b l) base w) w p v ≤ 240
 
     -- a node under an on bit is one of the page's
     next-small : (v q : ℕ) → v < w → q + rankIn (prefixesAt img (depth b l)) base ≡ p + rankIn (prefixesAt img (depth b l)) (base + v) → q ≤ 240
@@ -108,7 +101,7 @@ module _ (img : List ℕ) (r : Ready img) (b : ℕ) (lo : 1 ≤ b) (hi : b ≤ 8
           small = omega (arith, next-small v (placeAfter set w p v) h (s .place-is) (s .small), bit-is);
         }
 
-    read-all : (v : ℕ) → v ≤ w → Read v
+    pub read-all : (v : ℕ) → v ≤ w → Read v
     read-all zero h = read-start
     read-all (suc v) h = read-next v (omega arith) (read-all v (omega arith))
 

@@ -18,3 +18,7 @@ pub mod Ends
 pub mod Steps
 pub mod Whole
 pub mod Jobs
+pub mod Next
+pub mod Spots
+pub mod Kept
+pub mod Walked

@@ -26,9 +26,6 @@ use Rattle.query.proofs.Pages.{bytes, checked, page-number, page-end, h
 
 -- page i of a band, where t is its T and n the next
 module _ {img : List ℕ} (r : Ready img) {band : Band} (d : BandRead img band) {i : ℕ} (h : i < pageCount img (band .number)) where
-  b : ℕ
-  b = band .number
-
   pub number-is : band .first + i ≡ pageNumber img (band .number) i
   number-is = ap (_+ i) (d .first) ∙ page-number r (band .number) i
 

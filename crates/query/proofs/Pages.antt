@@ -2,7 +2,7 @@
 -- Assumes nothing.
 use mathlib.Core.Path.{_≡_, refl, sym, ap, _∙_}
 use mathlib.Core.List.{List}
-use Prim.Native.Nat.{ℕ, zero, suc, _+_, _-_, _*_, _≤_, _<_}
+use Prim.Native.Nat.{ℕ, suc, _+_, _-_, _*_, _≤_, _<_}
 use native.Mathlib.Nat.{add-zero}
 use native.Mathlib.Numerals.{add-one}
 use native.Mathlib.Omega.{arith}
@@ -10,7 +10,7 @@ use native.Mathlib.Decide.{decLe}
 use lib.ListN.{length}
 use Rattle.format.specs.Seq.{All}
 use Rattle.format.specs.Page.{Byte, numberAt}
-use Rattle.format.specs.Image.{keyCount, nextT, pageB, pageCount, pageNumber, pageT, pagesBefore, rootCount}
+use Rattle.format.specs.Image.{nextT, pageB, pageCount, pageNumber, pageT, rootCount}
 use Rattle.format.proofs.Bytes.{number-small}
 use Rattle.format.proofs.Accepted.{facts}
 use Rattle.format.proofs.Checked.{Checked, Counts, no-keys, some-keys}

@@ -3,13 +3,13 @@
 use mathlib.Core.Path.{_≡_, refl, sym, ap, ap₂, subst, _∙_}
 use mathlib.Core.List.{List, [], _∷_, _++_, map, map-append, append-nil}
 use Prim.Native.Nat.{ℕ, zero, suc, _+_, _-_, _*_, _/_, _^_, _≤_, _<_}
-use native.Mathlib.Nat.{add-zero, div-one}
+use native.Mathlib.Nat.{div-one}
 use native.Mathlib.Numerals.{add-one}
 use native.Mathlib.Omega.{arith}
 use lib.ListN.{length, getD, set, replicate, length-map}
 use Rattle.format.specs.Seq.{numbersFrom, total}
-use Rattle.format.specs.Image.{bands, keyCount, keysOf, pageCount, pageNumber, pageRoots, pageT, pagesBefore, rootCount}
-use Rattle.format.specs.Answer.{absent, listed, lookupAnswer, pageOf, rootOf}
+use Rattle.format.specs.Image.{bands, pageCount, pageNumber, pageRoots, pageT, pagesBefore, rootCount}
+use Rattle.format.specs.Answer.{listed, lookupAnswer, pageOf, rootOf}
 use Rattle.format.proofs.Lists.{numbers-split, length-numbers}
 use Rattle.format.proofs.Accepted.{facts}
 use Rattle.format.proofs.Back.{pagesBefore-suc}

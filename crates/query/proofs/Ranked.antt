@@ -1,16 +1,14 @@
 -- From a rank up the bands: the key is made of four bits a band, the last band's the lowest.
 -- Assumes nothing.
 use mathlib.Core.Path.{_≡_, refl, sym, ap, ap₂, _∙_}
-use mathlib.Core.List.{List, map}
-use Prim.Native.Nat.{ℕ, zero, suc, _+_, _-_, _*_, _/_, _^_, _≤_, _<_}
+use mathlib.Core.List.{List}
+use Prim.Native.Nat.{ℕ, suc, _+_, _-_, _*_, _/_, _^_, _≤_, _<_}
 use native.Mathlib.Nat.{add-mul, mul-assoc, mul-comm, mul-le-mul-right, pow-le-pow-right, pow-suc}
-use native.Mathlib.Numerals.{add-one}
 use native.Mathlib.Decide.{decLe}
 use native.Mathlib.Omega.{arith}
 use borrow.Author.Tests.{lt-ltb, le-ltb}
 use lib.Dec.{ltb}
 use lib.ListN.{length, getD}
-use Rattle.format.specs.Seq.{total}
 use Rattle.format.specs.Image.{bands, keyCount, keysOf, pageCount, pageNumber, pagesBefore, rootCount}
 use Rattle.format.specs.Question.{outLinksDue}
 use Rattle.format.proofs.Accepted.{facts}

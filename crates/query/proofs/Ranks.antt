@@ -1,19 +1,19 @@
 -- Ranks in an ascending list: of a member, of the next number, of a number just below a member.
 -- Assumes nothing.
-use mathlib.Core.Bool.{Bool, true, false, _||_}
+use mathlib.Core.Bool.{Bool, true, false}
 use mathlib.Core.List.{List, [], _∷_, List·Memᴰ, List·Memᴰ·head, List·Memᴰ·tail, List·Memᴰ·not-nil, List·Memᴰ·cases-cons}
 use mathlib.Core.Logic.{⊎-elim}
 use mathlib.Core.Path.{_≡_, refl, sym, ap, _∙_}
-use Prim.Native.Nat.{ℕ, zero, suc, _+_, _≤_, _<_}
+use Prim.Native.Nat.{ℕ, suc, _+_, _≤_, _<_}
 use native.Mathlib.Decide.{decLt, ℕ-discrete}
 use native.Mathlib.Omega.{arith}
 use borrow.Author.Tests.{lt-ltb, le-ltb, eq-eqb, ne-eqb}
-use lib.Dec.{eqb, ltb}
+use lib.Dec.{ltb}
 use lib.ListN.{length, getD}
-use Rattle.format.specs.Seq.{All, consIf, isIn, rankIn, select}
-use Rattle.format.proofs.Trie.{Above, Asc}
+use Rattle.format.specs.Seq.{consIf, isIn, rankIn, select}
+use Rattle.format.proofs.Trie.{Asc}
 use Rattle.format.proofs.Members.{asc-tail, above-mem}
-use Rattle.format.proofs.Descent.{isIn-mem, isIn-not, mem-at, rank-at}
+use Rattle.format.proofs.Descent.{isIn-not, rank-at}
 use Rattle.query.specs.Subtrie.{asBit}
 
 -- a member or not, with the test's answer
@@ -43,6 +43,14 @@ rank-cons e l z = go (ltb e z)
     go true = unfold consIf asBit in omega arith
     go false = unfold consIf asBit in omega arith
 
+pub rank-few : (l : List ℕ) (z : ℕ) → rankIn l z ≤ length l
+rank-few [] z = unfold rankIn select in omega arith
+rank-few (e ∷ l) z = go (ltb e z) (rank-cons e l z) (rank-few l z)
+  where
+    go : (b : Bool) → rankIn (e ∷ l) z ≡ asBit b + rankIn l z → rankIn l z ≤ length l → rankIn (e ∷ l) z ≤ suc (length l)
+    go true h k = unfold asBit in omega arith
+    go false h k = unfold asBit in omega arith
+
 -- the rank of the next number
 pub rank-next : (l : List ℕ) (z : ℕ) → Asc l → rankIn l (suc z) ≡ rankIn l z + asBit (isIn z l)
 unfolding isIn asBit
@@ -61,7 +69,7 @@ rank-next (e ∷ l) z a =
     ])
 
 -- ranks agree where no member lies between
-rank-agree : (l : List ℕ) (z z′ : ℕ) → ((k : ℕ) → List·Memᴰ k l → ltb k z ≡ ltb k z′) → rankIn l z ≡ rankIn l z′
+pub rank-agree : (l : List ℕ) (z z′ : ℕ) → ((k : ℕ) → List·Memᴰ k l → ltb k z ≡ ltb k z′) → rankIn l z ≡ rankIn l z′
 rank-agree [] z z′ f = unfold rankIn select in refl
 rank-agree (e ∷ l) z z′ f =
     rank-cons e l z ∙ ap (λ (b : Bool). asBit b + rankIn l z) (f e (List·Memᴰ·head refl)) ∙ ap (asBit (ltb e z′) +_) (rank-agree l z z′ (λ k m. f k (List·Memᴰ·tail m))) ∙ sym (rank-cons e l z′)

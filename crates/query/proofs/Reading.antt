@@ -40,9 +40,6 @@ reading-start {page} {set} {w} {p} l h k =
     }
 
 module _ {page : List ℕ} {set w p bits at left : ℕ} (s : Reading page set w p bits at left) (h : 0 < left) where
-  v : ℕ
-  v = w - left
-
   next-v : w - (left - 1) ≡ suc (w - left)
   next-v = omega (arith, s .to)
 
@@ -96,7 +93,11 @@ module _ {page : List ℕ} {set w p bits at left : ℕ} (s : Reading page set w 
       let k : w - (left - 1) + (left - 1) ≡ w = omega (arith, s .to) in
       omega (arith, place-next 1 e, place-rises set w p (w - (left - 1)) (left - 1), ap (placeAfter set w p) k, s .room)
 
-pub reading-end : {page : List ℕ} {set w p bits at left : ℕ} → Reading page set w p bits at left → left ≤ 0 → (bits ≡ bitsAfter page set w p w) × (bits < 65536)
+pub reading-end : {page : List ℕ} {set w p bits at left : ℕ} → Reading page set w p bits at left → left ≤ 0
+    → (bits ≡ bitsAfter page set w p w) × (bits < 65536) × (at ≡ placeAfter set w p w)
 reading-end {page} {set} {w} {p} {bits} {at} {left} s h =
-    let e : w - left ≡ w = omega arith in
-    (s .bits-is ∙ ap (bitsAfter page set w p) e, omega (arith, s .small, ap (4 ^_) e, pow-le-pow-right {n = 4} (omega arith) {i = w} {j = 8} (s .wide)))
+    let e : w - left ≡ w = omega arith in (
+      s .bits-is ∙ ap (bitsAfter page set w p) e,
+      omega (arith, s .small, ap (4 ^_) e, pow-le-pow-right {n = 4} (omega arith) {i = w} {j = 8} (s .wide)),
+      s .at-is ∙ ap (placeAfter set w p) e,
+    )

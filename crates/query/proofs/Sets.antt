@@ -1,7 +1,7 @@
 -- Sets of bits: the bit of a number, and a set read level by level.
 -- Assumes nothing.
 use mathlib.Core.Bool.{Bool, true, false}
-use mathlib.Core.Path.{_≡_, refl, sym, ap, _∙_}
+use mathlib.Core.Path.{_≡_, sym, ap, _∙_}
 use Prim.Native.Nat.{ℕ, zero, suc, _+_, _-_, _*_, _/_, _%_, _^_, _≤_, _<_}
 use native.Mathlib.Nat.{div-one, div-div-eq-div-mul, pow-succ'}
 use native.Mathlib.Decide.{decLt}

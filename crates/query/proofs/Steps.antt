@@ -1,13 +1,13 @@
 -- The steps of the walk: an out-link that is cut, that is a key, or that opens a band; the out-links of a subtrie one after the other.
 -- Assumes nothing.
 use mathlib.Core.Bool.{Bool, true, false}
-use mathlib.Core.List.{List, [], _∷_, _++_, List·Memᴰ, Memᴰ·cast}
-use mathlib.Core.Path.{_≡_, refl, sym, ap, ap₂, subst, _∙_}
-use Prim.Native.Nat.{ℕ, zero, suc, _+_, _-_, _*_, _/_, _%_, _^_, _≤_, _<_}
-use native.Mathlib.Nat.{add-mul, add-zero, div-eq-of-lt, mul-add-div-right, mul-assoc, mul-comm, mul-le-mul-right, mul-one, pow-le-pow-right}
+use mathlib.Core.List.{List, [], _∷_, List·Memᴰ, Memᴰ·cast}
+use mathlib.Core.Path.{_≡_, sym, ap, ap₂, subst, _∙_}
+use Prim.Native.Nat.{ℕ, suc, _+_, _-_, _*_, _/_, _^_, _≤_, _<_}
+use native.Mathlib.Nat.{add-mul, add-zero, div-eq-of-lt, mul-add-div-right, mul-assoc, mul-comm, mul-one, pow-le-pow-right}
 use native.Mathlib.Numerals.{add-one}
 use native.Mathlib.Omega.{arith}
-use lib.ListN.{length, getD, length-append}
+use lib.ListN.{length, getD}
 use lib.Pow.{pow-add}
 use Rattle.format.specs.declared.Rectangle.{Rectangle}
 use Rattle.format.specs.Seq.{isIn, rankIn}
@@ -21,7 +21,6 @@ use Rattle.format.proofs.Levels.{prefixesAt, prefixes-asc, prefixes-keys}
 use Rattle.format.proofs.Walk.{listed-prefix, roots-count}
 use Rattle.query.specs.declared.page.Band.{Band}
 use Rattle.query.specs.Page.{Ready, BandRead}
-use Rattle.query.specs.Way.{AtPrefix}
 use Rattle.query.specs.Subtrie.{asBit, levelSet, setBit, SubtrieRead}
 use Rattle.query.specs.Walk.{ApartRight, Opening, Walking, Listed, membersBetween}
 use Rattle.query.proofs.Pages.{bytes, checked, some-pages, few-pages}
@@ -30,7 +29,7 @@ use Rattle.query.proofs.Ranked.{links-count, links-few}
 use Rattle.query.proofs.Ranks.{Tested, member, stranger, tested, rank-next, at-rank}
 use Rattle.query.proofs.Sets.{bit-small, set-bit}
 use Rattle.query.proofs.Ends.{power-positive}
-use Rattle.query.proofs.Between.{members-split, members-none, members-outside, members-one}
+use Rattle.query.proofs.Between.{members-none, members-outside, members-one}
 
 pub keys-asc : {img : List ℕ} → Ready img → Asc (keysOf img)
 keys-asc {img} r = facts img (r .accepted) .keys .asc
@@ -73,12 +72,6 @@ small-next w h = omega arith
 
 pub room-same : (zs ys : List ℕ) (d m : ℕ) → zs ≡ ys → d + length zs ≤ m → d + length ys ≤ m
 room-same zs ys d m e h = rw (← e) h
-
-room-left : (zs xs ys : List ℕ) (d m : ℕ) → zs ≡ xs ++ ys → d + length zs ≤ m → d + length xs ≤ m
-room-left zs xs ys d m e h = omega (arith, ap length e, length-append xs ys)
-
-room-right : (zs xs ys : List ℕ) (d m n : ℕ) → zs ≡ xs ++ ys → d + length zs ≤ m → n ≡ d + length xs → n + length ys ≤ m
-room-right zs xs ys d m n e h f = omega (arith, ap length e, length-append xs ys)
 
 pub room-one : (zs : List ℕ) (d m k : ℕ) → zs ≡ k ∷ [] → d + length zs ≤ m → d < m
 room-one zs d m k e h = omega (arith, ap length e)
@@ -160,27 +153,17 @@ module _ {img : List ℕ} {w first link x : ℕ} (o : Opening img w first link x
 -- ---- the out-links of a subtrie
 
 module _ {img : List ℕ} {w first set link x v : ℕ} (s : Walking img w first set link x v) (rectangle : Rectangle) where
-  P : List ℕ
-  P = prefixesAt img (32 - w)
-
-  -- none is left
-  pub members-end : 16 ≤ v → membersBetween img rectangle ((16 * x + v) * 2 ^ w) ((16 * x + 16) * 2 ^ w) ≡ []
-  members-end h =
-      members-none img rectangle ((16 * x + v) * 2 ^ w) ((16 * x + 16) * 2 ^ w)
-      (λ k m lo hi. omega (arith, mul-le-mul-right (2 ^ w) (let q : 16 * x + 16 ≤ 16 * x + v = omega arith in q)))
-
   module _ (h : v < 16) where
     bit-is : setBit set 16 v ≡ asBit (isIn (16 * x + v) (prefixesAt img (32 - w)))
     bit-is = ap (λ (n : ℕ). setBit n 16 v) (s .set-is) ∙ set-bit (λ u. isIn (16 * x + u) (prefixesAt img (32 - w))) 16 v h
 
-    split-next : membersBetween img rectangle ((16 * x + v) * 2 ^ w) ((16 * x + 16) * 2 ^ w)
-        ≡ membersBetween img rectangle ((16 * x + v) * 2 ^ w) ((16 * x + v + 1) * 2 ^ w) ++ membersBetween img rectangle ((16 * x + (v + 1)) * 2 ^ w) ((16 * x + 16) * 2 ^ w)
-    split-next =
-        let e : 16 * x + v + 1 ≡ 16 * x + (v + 1) = omega arith in
-        members-split img rectangle ((16 * x + v) * 2 ^ w) ((16 * x + v + 1) * 2 ^ w) ((16 * x + 16) * 2 ^ w) (keys-asc (s .ready))
-        (mul-le-mul-right (2 ^ w) (let q : 16 * x + v ≤ 16 * x + v + 1 = omega arith in q))
-        (mul-le-mul-right (2 ^ w) (let q : 16 * x + v + 1 ≤ 16 * x + 16 = omega arith in q))
-        ∙ ap (λ (n : ℕ). membersBetween img rectangle ((16 * x + v) * 2 ^ w) ((16 * x + v + 1) * 2 ^ w) ++ membersBetween img rectangle (n * 2 ^ w) ((16 * x + 16) * 2 ^ w)) e
+    pub key-small : 16 * x + v < 2 ^ (32 - w)
+    key-small =
+        let e : 32 - w ≡ 28 - w + 4 = omega (arith, s .small) in
+        omega (arith, s .short, ap (2 ^_) e ∙ pow-add 2 (28 - w) 4)
+
+    pub key-fits : 16 * x + v < 4294967296
+    key-fits = omega (arith, key-small, pow-le-pow-right {n = 2} (omega arith) {i = 32 - w} {j = 32} (omega arith))
 
     rank-step : rankIn (prefixesAt img (32 - w)) (16 * x + (v + 1)) ≡ link + asBit (isIn (16 * x + v) (prefixesAt img (32 - w)))
     rank-step =
@@ -199,15 +182,12 @@ module _ {img : List ℕ} {w first set link x v : ℕ} (s : Walking img w first 
       pub walking-off : Walking img w first set link x (v + 1)
       walking-off = walking-next link (rank-step ∙ ap (link +_) (sym bit-is ∙ off) ∙ add-zero link)
 
-      pub members-off : membersBetween img rectangle ((16 * x + v) * 2 ^ w) ((16 * x + 16) * 2 ^ w) ≡ membersBetween img rectangle ((16 * x + (v + 1)) * 2 ^ w) ((16 * x + 16) * 2 ^ w)
-      members-off = split-next ∙ ap (_++ membersBetween img rectangle ((16 * x + (v + 1)) * 2 ^ w) ((16 * x + 16) * 2 ^ w)) none
-        where
-          none : membersBetween img rectangle ((16 * x + v) * 2 ^ w) ((16 * x + v + 1) * 2 ^ w) ≡ []
-          none =
-              members-none img rectangle ((16 * x + v) * 2 ^ w) ((16 * x + v + 1) * 2 ^ w)
-              (λ k m lo hi. let d : 32 - (32 - w) ≡ w = omega (arith, s .small) in
-              stranger-here (Memᴰ·cast (sym (ap (λ (n : ℕ). k / 2 ^ n) d ∙ in-cell w (16 * x + v) k lo hi))
-              (listed-prefix img (bytes (s .ready)) (checked (s .ready)) (s .ready .some) k (32 - w) (omega arith) m)))
+      pub none-here : membersBetween img rectangle ((16 * x + v) * 2 ^ w) ((16 * x + v + 1) * 2 ^ w) ≡ []
+      none-here =
+          members-none img rectangle ((16 * x + v) * 2 ^ w) ((16 * x + v + 1) * 2 ^ w)
+          (λ k m lo hi. let d : 32 - (32 - w) ≡ w = omega (arith, s .small) in
+          stranger-here (Memᴰ·cast (sym (ap (λ (n : ℕ). k / 2 ^ n) d ∙ in-cell w (16 * x + v) k lo hi))
+          (listed-prefix img (bytes (s .ready)) (checked (s .ready)) (s .ready .some) k (32 - w) (omega arith) m)))
 
     -- an on bit
     module _ (on : setBit set 16 v ≡ 0 → ⊥) where
@@ -220,14 +200,6 @@ module _ {img : List ℕ} {w first set link x v : ℕ} (s : Walking img w first 
           go : (b : Bool) → Tested (16 * x + v) (prefixesAt img (32 - w)) b → asBit b ≡ 1 → List·Memᴰ (16 * x + v) (prefixesAt img (32 - w))
           go true (member m) e = m
           go false (stranger f) e = absurd (unfold asBit in omega arith)
-
-      pub key-small : 16 * x + v < 2 ^ (32 - w)
-      key-small =
-          let e : 32 - w ≡ 28 - w + 4 = omega (arith, s .small) in
-          omega (arith, s .short, ap (2 ^_) e ∙ pow-add 2 (28 - w) 4)
-
-      pub key-fits : 16 * x + v < 4294967296
-      key-fits = omega (arith, key-small, pow-le-pow-right {n = 2} (omega arith) {i = 32 - w} {j = 32} (omega arith))
 
       pub opening-on : Opening img w first link (16 * x + v)
       opening-on =
@@ -249,15 +221,3 @@ module _ {img : List ℕ} {w first set link x v : ℕ} (s : Walking img w first 
 
       pub walking-on : Walking img w first set (link + 1) x (v + 1)
       walking-on = walking-next (link + 1) (rank-step ∙ ap (link +_) bit-one)
-
-      pub members-on : membersBetween img rectangle ((16 * x + v) * 2 ^ w) ((16 * x + 16) * 2 ^ w)
-          ≡ membersBetween img rectangle ((16 * x + v) * 2 ^ w) ((16 * x + v + 1) * 2 ^ w) ++ membersBetween img rectangle ((16 * x + (v + 1)) * 2 ^ w) ((16 * x + 16) * 2 ^ w)
-      members-on = split-next
-
-      pub room-first : (d m : ℕ) → d + length (membersBetween img rectangle ((16 * x + v) * 2 ^ w) ((16 * x + 16) * 2 ^ w)) ≤ m
-          → d + length (membersBetween img rectangle ((16 * x + v) * 2 ^ w) ((16 * x + v + 1) * 2 ^ w)) ≤ m
-      room-first d m h = room-left _ (membersBetween img rectangle ((16 * x + v) * 2 ^ w) ((16 * x + v + 1) * 2 ^ w)) (membersBetween img rectangle ((16 * x + (v + 1)) * 2 ^ w) ((16 * x + 16) * 2 ^ w)) d m split-next h
-
-      pub room-rest : (d m n : ℕ) → d + length (membersBetween img rectangle ((16 * x + v) * 2 ^ w) ((16 * x + 16) * 2 ^ w)) ≤ m
-          → n ≡ d + length (membersBetween img rectangle ((16 * x + v) * 2 ^ w) ((16 * x + v + 1) * 2 ^ w)) → n + length (membersBetween img rectangle ((16 * x + (v + 1)) * 2 ^ w) ((16 * x + 16) * 2 ^ w)) ≤ m
-      room-rest d m n h e = room-right _ (membersBetween img rectangle ((16 * x + v) * 2 ^ w) ((16 * x + v + 1) * 2 ^ w)) (membersBetween img rectangle ((16 * x + (v + 1)) * 2 ^ w) ((16 * x + 16) * 2 ^ w)) d m n split-next h e

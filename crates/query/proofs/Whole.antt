@@ -2,8 +2,8 @@
 -- Assumes nothing.
 use mathlib.Core.Bool.{Bool, true, false}
 use mathlib.Core.List.{List, [], _∷_}
-use mathlib.Core.Path.{_≡_, refl, sym, ap, _∙_}
-use Prim.Native.Nat.{ℕ, zero, suc, _+_, _*_, _^_, _≤_, _<_}
+use mathlib.Core.Path.{_≡_, refl, ap}
+use Prim.Native.Nat.{ℕ, suc, _+_, _*_, _^_, _≤_, _<_}
 use native.Mathlib.Omega.{arith}
 use lib.ListN.{length}
 use Rattle.format.specs.declared.Rectangle.{Rectangle}
@@ -12,7 +12,6 @@ use Rattle.format.specs.Image.{keyCount, keysOf, pageNumber, pagesBefore}
 use Rattle.format.specs.Answer.{inside, memberKeys}
 use Rattle.format.specs.Exact.{Accepted}
 use Rattle.format.proofs.Accepted.{facts}
-use Rattle.format.proofs.Lists.{all-to}
 use Rattle.format.proofs.Depth.{no-keys-listed}
 use Rattle.format.proofs.Trie.{Fits}
 use Rattle.format.proofs.Levels.{prefixesAt}

@@ -4,3 +4,4 @@ pub mod Climb
 pub mod Subtrie
 pub mod Walk
 pub mod Outcomes
+pub mod Cell

@@ -1,10 +1,10 @@
 -- What the way of a key down the bands finds.
 -- Assumes nothing.
 use mathlib.Core.Path.{_≡_}
-use mathlib.Core.List.{List, map}
+use mathlib.Core.List.{List}
 use Prim.Native.Nat.{ℕ, _-_, _*_, _/_, _^_, _<_}
 use lib.ListN.{length, getD, replicate}
-use Rattle.format.specs.Answer.{LookupAnswer, absent, listed, lookupAnswer}
+use Rattle.format.specs.Answer.{absent, listed, lookupAnswer}
 use Rattle.format.proofs.Levels.{prefixesAt}
 use Rattle.query.specs.declared.Presence.{Presence}
 use Rattle.query.specs.declared.Presence.the-variants.{Listed, Absent, Refused}

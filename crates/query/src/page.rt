@@ -139,6 +139,21 @@ pub fn page_of_root(image: &[u8], band: Band, root: Root) -> Page
     page_at(image, band, index)
 }
 
+// The page of a band that has the root, tried first at index `hint`: a walk often stays in a page.
+pub fn page_near(image: &[u8], band: Band, root: Root, hint: usize) -> Page
+    requires { ⌜ (Ready (now image)) × (BandRead (now image) band) × (root .0 < rootCount (now image) (band .number)) ⌝ }
+    ensures { λ r. ⌜ (PageRead (now (image .entry)) r) × (r .band ≡ band .number) × (r .t ≤ root .0) × (root .0 < r .t + r .roots) ⌝ }
+{
+    if hint < band.pages {
+        if head_at(image, band, 0, hint) <= root.0 {
+            if root.0 < next_t(image, band, hint) {
+                return page_at(image, band, hint);
+            }
+        }
+    }
+    page_of_root(image, band, root)
+}
+
 // The page of a band that has the out-link to root `below` of the band below, or out of band 8 to the key of that rank.
 pub fn page_above(image: &[u8], band: Band, below: Root) -> Page
     requires { ⌜ (Ready (now image)) × (BandRead (now image) band) × (below .0 < outLinksDue (now image) (band .number)) ⌝ }

@@ -4,11 +4,11 @@ ghost use Prim.Native.Nat.{_+_, _-_, _*_, _≤_, _<_, _^_};
 ghost use lib.ListN.{length, set};
 ghost use Rattle.format.specs.Answer.{memberKeys};
 ghost use Rattle.format.specs.Exact.{Accepted};
+ghost use Rattle.query.specs.Cell.{Spots};
 ghost use Rattle.query.specs.Walk.{ApartRight, Opening, Walking, Listed, membersBetween};
 use crate::page::band_at;
 use crate::page::number_at;
-use crate::page::page_of_root;
-use crate::subtrie::read_subtrie;
+use crate::spot::next_subtrie;
 use format::OutLink;
 use format::Rectangle;
 use format::cross;
@@ -54,14 +54,15 @@ fn open_band(
     image: &[u8],
     rectangle: Rectangle,
     keys: &mut [u32],
+    state: &mut [usize; 64],
     done: usize,
     levels: usize,
     first: usize,
     link: OutLink,
     prefix: u32,
 ) -> usize
-    requires { ⌜ (Opening (now image) levels first (link .0) prefix) × (done + length (membersBetween (now image) rectangle (prefix * 2 ^ levels) ((prefix + 1) * 2 ^ levels)) ≤ 4096) ⌝ }
-    ensures { λ r. ⌜ Listed (membersBetween (now (image .entry)) rectangle (prefix * 2 ^ levels) ((prefix + 1) * 2 ^ levels)) (now (keys .entry)) done (now (keys .exit)) r ⌝ }
+    requires { ⌜ (Opening (now image) levels first (link .0) prefix) × (Spots (now image) (now state)) × (done + length (membersBetween (now image) rectangle (prefix * 2 ^ levels) ((prefix + 1) * 2 ^ levels)) ≤ 4096) ⌝ }
+    ensures { λ r. ⌜ (Listed (membersBetween (now (image .entry)) rectangle (prefix * 2 ^ levels) ((prefix + 1) * 2 ^ levels)) (now (keys .entry)) done (now (keys .exit)) r) × (Spots (now (image .entry)) (now (state .exit))) ⌝ }
 {
     if apart(rectangle, levels, prefix) {
         return done;
@@ -71,79 +72,51 @@ fn open_band(
     }
     let band = band_at(image, 9 - levels / 4, first);
     let root = cross(link);
-    let page = page_of_root(image, band, root);
-    let subtrie = read_subtrie(image, page, root);
+    let subtrie = next_subtrie(image, state, band, root);
     let next = subtrie.link;
     walk_subtrie(
         image,
         rectangle,
         keys,
+        state,
         done,
         levels - 4,
         first + band.pages,
         subtrie.set,
         next,
         prefix,
-        0,
     )
 }
 
-// Lists the members below the out-links of a subtrie from `ending` on. Each opens the band below.
+// Lists the members below the out-links of a subtrie. Each opens the band below.
 fn walk_subtrie(
     image: &[u8],
     rectangle: Rectangle,
     keys: &mut [u32],
+    state: &mut [usize; 64],
     done: usize,
     levels: usize,
     first: usize,
     set: u32,
     link: OutLink,
     prefix: u32,
-    ending: u32,
 ) -> usize
-    requires { ⌜ (Walking (now image) levels first set (link .0) prefix ending) × (done + length (membersBetween (now image) rectangle ((16 * prefix + ending) * 2 ^ levels) ((16 * prefix + 16) * 2 ^ levels)) ≤ 4096) ⌝ }
-    ensures { λ r. ⌜ Listed (membersBetween (now (image .entry)) rectangle ((16 * prefix + ending) * 2 ^ levels) ((16 * prefix + 16) * 2 ^ levels)) (now (keys .entry)) done (now (keys .exit)) r ⌝ }
+    requires { ⌜ (Walking (now image) levels first set (link .0) prefix 0) × (Spots (now image) (now state)) × (done + length (membersBetween (now image) rectangle ((16 * prefix + 0) * 2 ^ levels) ((16 * prefix + 16) * 2 ^ levels)) ≤ 4096) ⌝ }
+    ensures { λ r. ⌜ (Listed (membersBetween (now (image .entry)) rectangle ((16 * prefix + 0) * 2 ^ levels) ((16 * prefix + 16) * 2 ^ levels)) (now (keys .entry)) done (now (keys .exit)) r) × (Spots (now (image .entry)) (now (state .exit))) ⌝ }
 {
-    if 16 <= ending {
-        return done;
+    let mut n = done;
+    let mut next = link;
+    let mut ending = 0u32;
+    while ending < 16 {
+        let on = (set >> (15 - ending)) % 2;
+        let key = 16 * prefix + ending;
+        ending += 1;
+        if on == 1 {
+            n = open_band(image, rectangle, keys, state, n, levels, first, next, key);
+            next = OutLink(next.0 + 1);
+        }
     }
-    if (set >> (15 - ending)) % 2 == 0 {
-        return walk_subtrie(
-            image,
-            rectangle,
-            keys,
-            done,
-            levels,
-            first,
-            set,
-            link,
-            prefix,
-            ending + 1,
-        );
-    }
-    let n = open_band(
-        image,
-        rectangle,
-        keys,
-        done,
-        levels,
-        first,
-        link,
-        16 * prefix + ending,
-    );
-    let next = OutLink(link.0 + 1);
-    walk_subtrie(
-        image,
-        rectangle,
-        keys,
-        n,
-        levels,
-        first,
-        set,
-        next,
-        prefix,
-        ending + 1,
-    )
+    n
 }
 
 // Lists the members of the rectangle, ascending, into the first places of `keys`, as far as it has places. How many there are.
@@ -154,7 +127,8 @@ pub fn list_members(image: &[u8], rectangle: Rectangle, keys: &mut [u32]) -> usi
     if number_at(image, 6) == 0 {
         return 0;
     }
-    open_band(image, rectangle, keys, 0, 32, 1, OutLink(0), 0)
+    let mut state = [0usize; 64];
+    open_band(image, rectangle, keys, &mut state, 0, 32, 1, OutLink(0), 0)
 }
 
 // How many members the rectangle has.

@@ -9,7 +9,7 @@ use lib.Dec.{ltb}
 use borrow.Author.Tests.{lt-ltb, le-ltb}
 use lib.ListN.{length, getD, drop}
 use Rattle.format.specs.Writer.{ascending}
-use Rattle.format.proofs.Trie.{Above, Asc}
+use Rattle.format.proofs.Trie.{Asc}
 
 step : (l : List ℕ) (n : ℕ) → suc n < length l → ascending (drop n l) ≡ ltb (getD l n 0) (getD l (suc n) 0) && ascending (drop (suc n) l)
 unfolding ascending

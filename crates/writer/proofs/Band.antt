@@ -1,14 +1,13 @@
 -- The pages of a band filled in one after the other, each above the next run of prefixes.
 -- Assumes nothing.
-use mathlib.Core.Path.{_≡_, refl, sym, ap, ap₂, _∙_, subst}
-use mathlib.Core.Bool.{cond}
+use mathlib.Core.Path.{_≡_, refl, sym, ap, ap₂, _∙_}
 use mathlib.Core.List.{List, [], _∷_, _++_, append-assoc, append-nil}
-use Prim.Native.Nat.{ℕ, zero, suc, _+_, _*_, _-_, _/_, _≤_, _<_}
+use Prim.Native.Nat.{ℕ, _+_, _*_, _-_, _/_, _≤_, _<_}
 use native.Mathlib.Omega.{arith}
 use native.Mathlib.Decide.{decLt}
-use lib.ListN.{length, getD, take, drop, length-append, length-drop}
-use lib.Seq.{take-all, take-at, take-take, take-append-le, drop-at, drop-append-le, drop-append-add, drop-drop, drop-length, getD-drop, length-take-le}
-use Rattle.format.specs.Trie.{onBits, parents}
+use lib.ListN.{length, getD, take, drop, length-append, length-drop, take-append-drop}
+use lib.Seq.{take-all, take-at, drop-at, drop-append-add, drop-drop, drop-length, getD-drop, length-take-le}
+use Rattle.format.specs.Trie.{parents}
 use Rattle.format.specs.Writer.{pagesOf, rootsIn, bandBytes, pageBytes}
 use Rattle.format.proofs.Trie.{Asc}
 use Rattle.format.proofs.Bytes.{length-pageBytes}
@@ -16,39 +15,13 @@ use Rattle.format.proofs.Members.{of-ascending}
 use Rattle.format.proofs.RunHeads.{heads}
 use Rattle.writer.specs.declared.Head.{Head}
 use Rattle.writer.specs.declared.run.PageRun.{PageRun}
-use Rattle.writer.specs.Run.{Prefixes, PageIs, bandAbove, rootsAbove}
+use Rattle.writer.specs.Run.{Prefixes, PageIs, bandAbove}
 use Rattle.writer.specs.Page.{PageRoom, PageDone}
 use Rattle.writer.specs.Image.{BandRoom, BandDone, bytesOfBand, pagesFrom}
+use Rattle.writer.proofs.Parts.{put, length-put, take-put, drop-put, rest-put}
 use Rattle.writer.proofs.Ascending.{to-ascending}
 use Rattle.writer.proofs.Runs.{Run, run-of, part, part-join, part-all, asc-drop}
 use Rattle.writer.proofs.Bands.{roots-are, roots-is, roots-join, links-are, no-pages, heads-few}
-
--- ---- a part of a list put back
-
--- ys in place of k elements from the a-th on
-abbrev pub put : ℕ → ℕ → List ℕ → List ℕ → List ℕ
-put a k xs ys = take a xs ++ (ys ++ drop k (drop a xs))
-
-module _ (a k : ℕ) (xs ys : List ℕ) (room : a + k ≤ length xs) (same : length ys ≡ k) where
-  start-length : length (take a xs) ≡ a
-  start-length = length-take-le a xs (omega arith)
-
-  length-put : length (put a k xs ys) ≡ length xs
-  length-put = omega (arith, length-append (take a xs) (ys ++ drop k (drop a xs)), length-append ys (drop k (drop a xs)), start-length, length-drop k (drop a xs), length-drop a xs)
-
-  take-put : (t : ℕ) → t ≤ a → take t (put a k xs ys) ≡ take t xs
-  take-put t h = take-append-le t (take a xs) (ys ++ drop k (drop a xs)) (omega (arith, start-length)) ∙ take-take t a xs h
-
-  drop-put : (j : ℕ) → j ≤ k → drop (a + j) (put a k xs ys) ≡ drop j ys ++ drop k (drop a xs)
-  drop-put j h =
-      ap (λ (n : ℕ). drop (n + j) (put a k xs ys)) (sym start-length)
-      ∙ drop-append-add (take a xs) (ys ++ drop k (drop a xs)) j
-      ∙ drop-append-le j ys (drop k (drop a xs)) (omega arith)
-
-  rest-put : drop (a + k) (put a k xs ys) ≡ drop (a + k) xs
-  rest-put = drop-put k (omega arith) ∙ ap (_++ drop k (drop a xs)) (ap (λ (n : ℕ). drop n ys) (sym same) ∙ drop-length ys) ∙ drop-drop k a xs
-
--- ---- the pages so far
 
 -- the pages of the first `from` prefixes q are done; keys are what has become of q, and out of out₀
 pub record Pages (q out₀ : List ℕ) (first : ℕ) (keys out : List ℕ) (head : Head) (number from : ℕ) : Type 0 where
@@ -83,7 +56,7 @@ pages-start q out first g =
       done = [];
       all = refl;
       done-size = omega arith;
-      out-is = sym (cut (64 * first) out);
+      out-is = sym (take-append-drop (64 * first) out);
       same-out = refl;
       pages-left = refl;
       same-keys = refl;
@@ -94,11 +67,6 @@ pages-start q out first g =
       lifted = sym heads-none;
       apart = λ h. absurd (omega arith);
     }
-  where
-    cut : (n : ℕ) (l : List ℕ) → take n l ++ drop n l ≡ l
-    cut zero l = refl
-    cut (suc n) [] = refl
-    cut (suc n) (x ∷ l) = ap (x ∷_) (cut n l)
 
 module _ (q out₀ : List ℕ) (first : ℕ) (keys out : List ℕ) (head : Head) (number from : ℕ) (s : Pages q out₀ first keys out head number from) (more : from < length keys) where
   rest-is : take (length keys - from) (drop from keys) ≡ drop from q

@@ -2,22 +2,21 @@
 -- Assumes nothing.
 use mathlib.Core.Path.{_≡_, refl, sym, ap, _∙_, subst}
 use mathlib.Core.List.{List, [], _∷_, _++_}
-use Prim.Native.Nat.{ℕ, zero, suc, _+_, _-_, _/_, _≤_, _<_}
+use Prim.Native.Nat.{ℕ, _+_, _-_, _/_, _≤_, _<_}
 use native.Mathlib.Numerals.{add-one}
 use native.Mathlib.Omega.{arith}
 use native.Mathlib.Decide.{decLe}
 use borrow.Author.Tests.{le-leb, lt-leb}
 use lib.ListN.{length, getD, take, drop, set, length-set, length-append}
-use lib.Seq.{take-all, take-suc-set, drop-set-lt, drop-drop, drop-length, getD-drop, take-set-le}
+use lib.Seq.{take-suc-set, drop-set-lt, drop-drop, drop-length, getD-drop}
 use Rattle.format.specs.Trie.{parents, nodesOver}
-use Rattle.format.specs.Writer.{ascending, pagesOf, rootsIn}
-use Rattle.format.proofs.Trie.{Asc}
+use Rattle.format.specs.Writer.{pagesOf, rootsIn}
 use Rattle.format.proofs.Members.{of-ascending}
 use Rattle.format.proofs.RunHeads.{heads}
 use Rattle.format.proofs.Runs.{heads-same, bandOver}
 use Rattle.writer.specs.declared.run.Packing.{Packing}
 use Rattle.writer.specs.Run.{Prefixes, BandCounted, bandAbove, rootsAbove, moreNodes, joined}
-use Rattle.writer.proofs.Runs.{Run, run-of, rest-run, part, part-more, part-single, part-all, next-above}
+use Rattle.writer.proofs.Runs.{Run, run-of, part, part-more, part-single, part-all, next-above}
 use Rattle.writer.proofs.Bands.{band-is, no-pages, roots-are, roots-is, roots-join}
 use Rattle.writer.proofs.Scan.{Scan, scan-start, scan-same, scan-next, scan-turns, scan-ends, scan-last}
 
@@ -35,10 +34,6 @@ pub record Counting (q keys : List ℕ) (x roots : ℕ) (packing : Packing) (siz
   pub roots-few : roots ≤ i
   pub roots-count : roots ≡ length (heads 4 (part 0 i q))
   pub lifted : take roots keys ≡ heads 4 (part 0 i q)
-
-drop-none : (l : List ℕ) → drop 0 l ≡ l
-drop-none [] = refl
-drop-none (x ∷ l) = refl
 
 heads-one : (y : ℕ) → heads 4 (y ∷ []) ≡ y / 16 ∷ []
 unfolding heads parents
@@ -59,7 +54,7 @@ count-start q p some =
       from = 0;
       start = 0;
       scan = scan-start q 0 (of-ascending q (p .ordered)) some;
-      pages-are = let e = ap (λ (l : List ℕ). length (pagesOf (bandAbove l))) (drop-none q) in omega (arith, e);
+      pages-are = omega arith;
       pages-few = omega arith;
       last-read = refl;
       few = p .few;
@@ -67,12 +62,8 @@ count-start q p some =
       unread = drop-set-lt 1 q 0 (getD q 0 0 / 16) (omega arith);
       roots-few = omega arith;
       roots-count = sym (ap length first);
-      lifted = take-suc-set q 0 (getD q 0 0 / 16) some ∙ ap (_++ getD q 0 0 / 16 ∷ []) (none q) ∙ sym first;
+      lifted = take-suc-set q 0 (getD q 0 0 / 16) some ∙ sym first;
     }
-  where
-    none : (l : List ℕ) → take 0 l ≡ []
-    none [] = refl
-    none (x ∷ l) = refl
 
 module _ (q keys : List ℕ) (x roots : ℕ) (packing : Packing) (size i : ℕ) (c : Counting q keys x roots packing size i) (more : i < length keys) where
   lt : i < length q
@@ -186,7 +177,7 @@ module _ (q keys : List ℕ) (x roots : ℕ) (packing : Packing) (size i : ℕ) 
 -- after the last prefix
 module _ (q keys : List ℕ) (x roots : ℕ) (packing : Packing) (size i : ℕ) (c : Counting q keys x roots packing size i) (end : length keys ≤ i) where
   all-read : part 0 i q ≡ q
-  all-read = part-all q 0 i (omega (arith, c .same-length)) ∙ drop-none q
+  all-read = part-all q 0 i (omega (arith, c .same-length))
 
   count-end : BandCounted q (record { pages = joined packing size .pages; roots = roots }) keys
   count-end =

@@ -1,11 +1,11 @@
 -- A filled page: its bytes, and the T and B of the next.
 -- Assumes nothing.
-use mathlib.Core.Path.{_≡_, refl, sym, ap, ap₂, _∙_}
+use mathlib.Core.Path.{_≡_, refl, sym, ap, _∙_}
 use mathlib.Core.List.{List, [], _∷_, _++_, append-assoc, append-nil, flatMap, flatten}
 use Prim.Native.Nat.{ℕ, zero, suc, _+_, _-_, _≤_}
 use native.Mathlib.Omega.{arith}
 use lib.ListN.{length, getD, take, drop, replicate, length-append, length-drop}
-use lib.Seq.{take-at, drop-at, drop-drop}
+use lib.Seq.{drop-at, drop-drop}
 use Rattle.format.specs.Seq.{All}
 use Rattle.format.specs.Trie.{nodesOver, onBits, bits}
 use Rattle.format.specs.Page.{Byte, nodeBytes, nodeCount, pairsOf, twoBytes}
@@ -26,7 +26,8 @@ use Rattle.writer.proofs.Runs.{Run, rest-run}
 use Rattle.writer.proofs.Bands.{shape, roots-are, roots-is}
 use Rattle.writer.proofs.Nodes.{nodes-back}
 use Rattle.writer.proofs.Filling.{length-with}
-use Rattle.writer.proofs.Levels.{length-zeros, zeros-small}
+use Rattle.writer.proofs.Stores.{length-zeros}
+use Rattle.writer.proofs.Levels.{zeros-small}
 use Rattle.writer.proofs.Pages.{nodes-with, four-levels, flat, heads-listed}
 
 -- ---- T, B and no nodes

@@ -2,10 +2,10 @@
 -- Assumes nothing.
 use mathlib.Core.Path.{_≡_, refl, sym, ap, ap₂, _∙_}
 use mathlib.Core.List.{List, [], _∷_, _++_, append-assoc, append-nil, flatMap}
-use Prim.Native.Nat.{ℕ, zero, suc, _+_, _*_, _-_, _≤_, _<_}
+use Prim.Native.Nat.{ℕ, _+_, _*_, _≤_, _<_}
 use native.Mathlib.Numerals.{add-one}
 use native.Mathlib.Omega.{arith}
-use lib.ListN.{length, getD, take, drop, set, replicate, length-append, length-drop}
+use lib.ListN.{length, getD, take, drop, set, replicate, length-append, length-drop, take-append-drop}
 use lib.Seq.{take-at, take-all, take-suc, drop-at, drop-drop, length-take-le}
 use Rattle.format.specs.Page.{twoBytes}
 use Rattle.writer.specs.Image.{headerOf}
@@ -16,7 +16,7 @@ extended done l xs n k e =
     ap₂ (λ (a b : List ℕ). a ++ (xs ++ b)) (take-at done (drop n l) n e) (sym (drop-drop k n (done ++ drop n l)) ∙ ap (drop k) (drop-at done (drop n l) n e) ∙ drop-drop k n l)
     ∙ sym (append-assoc done xs (drop (n + k) l))
 
-length-two : (l : List ℕ) → length (flatMap twoBytes l) ≡ 2 * length l
+pub length-two : (l : List ℕ) → length (flatMap twoBytes l) ≡ 2 * length l
 unfolding flatMap twoBytes
 length-two [] = refl
 length-two (x ∷ l) = omega (arith, length-two l)
@@ -47,12 +47,7 @@ pub record Headed (out₀ counts out : List ℕ) (i : ℕ) : Type 0 where
 pub headed-start : (out counts : List ℕ) → length counts ≡ 16 → 64 ≤ length out → Headed out counts out 0
 unfolding flatMap
 headed-start out counts e h =
-    record { sixteen = e; room = h; within = omega arith; done = sym (ap (_++ drop 8 out) (append-nil (take 8 out)) ∙ cut 8 out); same = refl }
-  where
-    cut : (n : ℕ) (l : List ℕ) → take n l ++ drop n l ≡ l
-    cut zero l = refl
-    cut (suc n) [] = refl
-    cut (suc n) (x ∷ l) = ap (x ∷_) (cut n l)
+    record { sixteen = e; room = h; within = omega arith; done = sym (ap (_++ drop 8 out) (append-nil (take 8 out)) ∙ take-append-drop 8 out); same = refl }
 
 module _ (out₀ counts out : List ℕ) (i : ℕ) (s : Headed out₀ counts out i) where
   done-length : length (take 8 out₀ ++ flatMap twoBytes (take i counts)) ≡ 8 + 2 * i

@@ -4,26 +4,27 @@ use mathlib.Core.Path.{_≡_, refl, sym, ap, ap₂, _∙_}
 use mathlib.Core.Bool.{true, false}
 use mathlib.Core.Option.{Option, none, some}
 use mathlib.Core.List.{List, [], _∷_, _++_, append-assoc, flatMap, map}
-use Prim.Native.Nat.{ℕ, zero, suc, _+_, _*_, _-_, _^_, _≤_, _<_}
+use Prim.Native.Nat.{ℕ, suc, _+_, _*_, _-_, _^_, _≤_, _<_}
 use native.Mathlib.Omega.{arith}
 use borrow.Author.Tests.{le-leb, lt-leb}
 use lib.ListN.{length, getD, take, drop, replicate, length-append, take-append-drop}
-use lib.Seq.{take-at, take-all, drop-at, drop-drop}
+use lib.Seq.{take-at, drop-at, drop-drop}
 use Rattle.format.specs.Seq.{total}
 use Rattle.format.specs.Page.{twoBytes}
 use Rattle.format.specs.Question.{Outcome, refused, returns, outcome, settle, firstNo, filled}
 use Rattle.format.specs.Writer.{ascending, bandsOf, bandCounts, bandBytes, pagesOf, rootsIn, header, imageOf, listQuestions, roomQuestion, writeKeys, bufferAfterWriteKeys}
 use Rattle.format.proofs.Trie.{Fits}
-use Rattle.format.proofs.Questions.{after-yes, after-no}
+use Rattle.format.proofs.Questions.{after-yes}
 use Rattle.format.proofs.Members.{of-ascending}
 use Rattle.format.proofs.Exact.{list-writable, write-is}
-use Rattle.writer.specs.declared.Written.{Written}
 use Rattle.writer.specs.declared.Written.the-variants.{Length, Refused}
 use Rattle.writer.specs.declared.Plan.{Plan}
-use Rattle.writer.specs.Writer.{outcomeOf, WrittenKeys}
+use Rattle.writer.specs.Writer.{WrittenKeys}
 use Rattle.writer.specs.Run.{Prefixes}
 use Rattle.writer.specs.Image.{countsOf, pagesIn, headerOf, pagesFrom, bytesOfBand, bytesOfBands, Planned, ImageRoom}
-use Rattle.writer.proofs.Image.{countsIn, pageCount, bandsUp, bands-up, length-up, length-counts, length-band}
+use Rattle.writer.proofs.Header.{length-two}
+use Rattle.writer.proofs.Planning.{countsIn, pageCount, bands-up}
+use Rattle.writer.proofs.Writing.{length-up, length-counts, length-band}
 
 -- ---- the image
 
@@ -37,17 +38,12 @@ pub image-is : (keys : List ℕ) → headerOf (length keys) (countsOf keys) ++ b
 unfolding imageOf header headerOf countsOf bytesOfBands bytesOfBand twoBytes flatMap
 image-is keys = ap (λ (t : List ℕ). (0x4C ∷ 0x50 ∷ 0x54 ∷ 0 ∷ 1 ∷ 0 ∷ (twoBytes (length keys) ++ (t ++ replicate 24 0))) ++ flatMap (λ band. bandBytes 0 0 (pagesOf band)) (bandsOf keys)) (flat-counts (bandsOf keys))
 
-length-flat : (l : List ℕ) → length (flatMap twoBytes l) ≡ 2 * length l
-unfolding flatMap twoBytes
-length-flat [] = refl
-length-flat (x ∷ l) = omega (arith, length-flat l)
-
 header-length : (keys : List ℕ) → length (headerOf (length keys) (countsOf keys)) ≡ 64
 unfolding headerOf countsOf twoBytes
 header-length keys =
     let e : length (bandsOf keys) ≡ 8 = ap length (bands-up keys) ∙ length-up 8 keys in
     let n = length-append (flatMap twoBytes (flatMap countsIn (bandsOf keys))) (replicate 24 0) in
-    omega (arith, n, length-flat (flatMap countsIn (bandsOf keys)), length-counts (bandsOf keys))
+    omega (arith, n, length-two (flatMap countsIn (bandsOf keys)), length-counts (bandsOf keys))
 
 pages-length : (keys : List ℕ) → length (bytesOfBands keys) ≡ 64 * pagesIn keys
 unfolding bytesOfBands pagesIn

@@ -1,74 +1,23 @@
 -- The level above ascending prefixes, written from the last prefix to the first, and their parents in the last places.
 -- Assumes nothing.
 use mathlib.Core.Path.{_≡_, refl, sym, ap, ap₂, _∙_, subst}
-use mathlib.Core.Bool.{Bool, true, false, cond}
 use mathlib.Core.List.{List, [], _∷_, _++_}
-use Prim.Native.Nat.{ℕ, zero, suc, _+_, _*_, _-_, _/_, _≤_, _<_}
+use Prim.Native.Nat.{ℕ, zero, suc, _+_, _-_, _/_, _≤_, _<_}
 use native.Mathlib.Omega.{arith}
-use lib.Dec.{eqb}
-use borrow.Author.Tests.{eq-eqb, ne-eqb}
-use lib.ListN.{length, getD, take, drop, set, replicate, take-append-drop, length-append, length-drop, length-set}
-use lib.Seq.{getD-set-same, drop-cons, drop-nil, drop-set-lt, take-set-le, take-take, getD-take, drop-length, set-set, set-getD, set-split, length-take-le, drop-drop}
+use lib.ListN.{length, getD, take, drop, set, replicate, take-append-drop, length-set}
+use lib.Seq.{getD-set-same, drop-cons, drop-set-lt, take-set-le, take-take, getD-take, drop-length, set-getD, drop-drop}
 use Rattle.format.specs.Seq.{All}
 use Rattle.format.specs.Trie.{parents, nodesOver, addToFirst, bitOf}
-use Rattle.format.specs.Writer.{ascending}
 use Rattle.format.proofs.Lists.{all-append}
-use Rattle.format.proofs.Trie.{Above, Asc}
+use Rattle.format.proofs.Trie.{Asc}
 use Rattle.format.proofs.Shapes.{over}
 use Rattle.format.proofs.Bytes.{nodes-small}
 use Rattle.format.proofs.Members.{of-ascending}
-use Rattle.writer.specs.declared.page.Level.{Level}
 use Rattle.writer.specs.Page.{nodesOf, withNodes, bitIn, pageLeft, byteLeft, LevelRoom, LevelDone}
+use Rattle.writer.proofs.Stores.{length-zeros}
 use Rattle.writer.proofs.Runs.{asc-drop}
+use Rattle.writer.proofs.Fronts.{nodes-same, nodes-other, parents-same, parents-other, less-nodes, some-node}
 use Rattle.writer.proofs.Filling.{Held, with-own, held-on, held-left, held-small, length-left}
-
--- ---- one prefix more, in front
-
-module _ (x y : ℕ) (l : List ℕ) where
-  nodes-same : x / 2 ≡ y / 2 → nodesOver (x ∷ y ∷ l) ≡ addToFirst (bitOf x) (nodesOver (y ∷ l))
-  unfolding nodesOver
-  nodes-same e = rw (eq-eqb (x / 2) (y / 2) e)
-
-  nodes-other : (x / 2 ≡ y / 2 → ⊥) → nodesOver (x ∷ y ∷ l) ≡ bitOf x ∷ nodesOver (y ∷ l)
-  unfolding nodesOver
-  nodes-other e = rw (ne-eqb (x / 2) (y / 2) e)
-
-  parents-same : x / 2 ≡ y / 2 → parents (x ∷ y ∷ l) ≡ parents (y ∷ l)
-  unfolding parents
-  parents-same e = rw (eq-eqb (x / 2) (y / 2) e)
-
-  parents-other : (x / 2 ≡ y / 2 → ⊥) → parents (x ∷ y ∷ l) ≡ x / 2 ∷ parents (y ∷ l)
-  unfolding parents
-  parents-other e = rw (ne-eqb (x / 2) (y / 2) e)
-
--- the level has a node more at most
-more-nodes : (x : ℕ) (l : List ℕ) → (length (nodesOver l) ≤ length (nodesOver (x ∷ l))) × (length (nodesOver (x ∷ l)) ≤ length (nodesOver l) + 1)
-unfolding nodesOver
-more-nodes x [] = (omega arith, omega arith)
-more-nodes x (y ∷ l) = go (eqb (x / 2) (y / 2)) (nodesOver (y ∷ l))
-  where
-    go : (b : Bool) (ns : List ℕ) → (length ns ≤ length (cond b (addToFirst (bitOf x) ns) (bitOf x ∷ ns))) × (length (cond b (addToFirst (bitOf x) ns) (bitOf x ∷ ns)) ≤ length ns + 1)
-    go true [] = (unfold addToFirst in omega arith, unfold addToFirst in omega arith)
-    go true (n ∷ ns) = (unfold addToFirst in omega arith, unfold addToFirst in omega arith)
-    go false ns = (omega arith, omega arith)
-
-less-nodes : (n : ℕ) (l : List ℕ) → length (nodesOver (drop n l)) ≤ length (nodesOver l)
-less-nodes zero l = omega arith
-less-nodes (suc n) [] = omega arith
-less-nodes (suc n) (x ∷ l) = omega (arith, less-nodes n l, more-nodes x l .0)
-
--- no level has more nodes than prefixes
-few-nodes : (l : List ℕ) → length (nodesOver l) ≤ length l
-unfolding nodesOver
-few-nodes [] = omega arith
-few-nodes (x ∷ l) = omega (arith, more-nodes x l .1, few-nodes l)
-
-some-node : (y : ℕ) (l : List ℕ) → 1 ≤ length (nodesOver (y ∷ l))
-some-node y [] = unfold nodesOver in omega arith
-some-node y (z ∷ l) = omega (arith, more-nodes y (z ∷ l) .0, some-node z l)
-
-as-many : (x : ℕ) (l : List ℕ) → Above x l → length (nodesOver (x ∷ l)) ≡ length (parents (x ∷ l))
-as-many x l a = over x l a .same
 
 -- ---- the scan
 
@@ -101,16 +50,12 @@ split-zeros : (n : ℕ) (l : List ℕ) → replicate n 0 ++ 0 ∷ l ≡ replicat
 split-zeros zero l = refl
 split-zeros (suc n) l = ap (0 ∷_) (split-zeros n l)
 
-pub length-zeros : (n : ℕ) → length (replicate {A = ℕ} n 0) ≡ n
-length-zeros zero = refl
-length-zeros (suc n) = ap suc (length-zeros n)
+pub nodes-few : (l : List ℕ) → Asc l → All (λ m. m ≤ 3) (nodesOver l)
+nodes-few [] a = unfold nodesOver in tt
+nodes-few (x ∷ l) a = nodes-small (nodesOver (x ∷ l)) (over x l a .nodes)
 
 level-small : (l rest : List ℕ) (n : ℕ) → Asc l → All (λ m. m ≤ 3) rest → All (λ m. m ≤ 3) (replicate n 0 ++ (nodesOver l ++ rest))
-level-small l rest n a s = all-append (λ m. m ≤ 3) (replicate n 0) (nodesOver l ++ rest) (zeros-small n) (all-append (λ m. m ≤ 3) (nodesOver l) rest (go l a) s)
-  where
-    go : (l : List ℕ) → Asc l → All (λ m. m ≤ 3) (nodesOver l)
-    go [] a = unfold nodesOver in tt
-    go (x ∷ l) a = nodes-small (nodesOver (x ∷ l)) (over x l a .nodes)
+level-small l rest n a s = all-append (λ m. m ≤ 3) (replicate n 0) (nodesOver l ++ rest) (zeros-small n) (all-append (λ m. m ≤ 3) (nodesOver l) rest (nodes-few l a) s)
 
 drop-set : (l : List ℕ) (j v : ℕ) → j < length l → drop j (set l j v) ≡ v ∷ drop (suc j) l
 drop-set l j v h =

@@ -1,10 +1,10 @@
 -- Nodes in bytes: a node changed, bytes of nodes that are 00, and nodes read back from their bytes.
 -- Assumes nothing.
-use mathlib.Core.Path.{_≡_, refl, sym, ap, _∙_}
+use mathlib.Core.Path.{_≡_, refl, ap}
 use mathlib.Core.List.{List, [], _∷_, _++_, flatMap}
 use Prim.Native.Nat.{ℕ, zero, suc, _+_, _*_, _-_, _/_, _%_, _^_, _≤_, _<_}
 use native.Mathlib.Omega.{arith}
-use lib.ListN.{length, getD, take, drop, set, replicate}
+use lib.ListN.{length, getD, drop, set, replicate}
 use Rattle.format.specs.Seq.{All}
 use Rattle.format.specs.Trie.{bitOf}
 use Rattle.format.specs.Page.{byteOf, nodeBytes, pairsOf}

@@ -2,18 +2,16 @@
 -- Assumes nothing.
 use mathlib.Core.Path.{_≡_, refl, sym, ap, ap₂, _∙_}
 use mathlib.Core.List.{List, [], _∷_, _++_, append-assoc, append-nil, flatMap, flatten}
-use Prim.Native.Nat.{ℕ, zero, suc, _+_, _*_, _-_, _≤_, _<_}
+use Prim.Native.Nat.{ℕ, zero, suc, _+_, _-_, _≤_}
 use native.Mathlib.Omega.{arith}
 use lib.ListN.{length, getD, take, drop, replicate, length-append, length-drop}
-use lib.Seq.{take-at, drop-at, length-take-le, drop-drop, drop-length}
+use lib.Seq.{take-at, drop-at, length-take-le}
 use Rattle.format.specs.Seq.{All}
-use Rattle.format.specs.Trie.{parents, nodesOver, levelsOver, onBits}
-use Rattle.format.specs.Page.{nodeBytes, nodeCount, pairsOf, twoBytes}
-use Rattle.format.specs.Writer.{ascending, pageBytes, rootsIn}
+use Rattle.format.specs.Trie.{parents, nodesOver, levelsOver}
+use Rattle.format.specs.Page.{nodeBytes, nodeCount, pairsOf}
 use Rattle.format.proofs.Lists.{all-append}
 use Rattle.format.proofs.Trie.{Asc}
-use Rattle.format.proofs.Shapes.{over}
-use Rattle.format.proofs.Bytes.{length-flatten, length-nodeBytes, nodes-small, nodes-flatten}
+use Rattle.format.proofs.Bytes.{length-flatten, length-nodeBytes}
 use Rattle.format.proofs.Members.{of-ascending}
 use Rattle.format.proofs.RunHeads.{heads, heads-of}
 use Rattle.writer.specs.declared.page.Level.{Level}
@@ -24,7 +22,8 @@ use Rattle.writer.proofs.Runs.{Run, rest-run}
 use Rattle.writer.proofs.Bands.{shape, roots-are}
 use Rattle.writer.proofs.Nodes.{nodes-back}
 use Rattle.writer.proofs.Filling.{length-with, with-own}
-use Rattle.writer.proofs.Levels.{length-zeros, zeros-small}
+use Rattle.writer.proofs.Stores.{length-zeros}
+use Rattle.writer.proofs.Levels.{nodes-few, zeros-small}
 
 -- ---- nodes of a page with other nodes
 
@@ -88,12 +87,8 @@ module _ (page₀ page done : List ℕ) (n : ℕ) (s : Stage page₀ page done n
             ∙ ap (λ (l : List ℕ). withNodes l nodes) (s .is)
             ∙ with-with page₀ (replicate n 0 ++ done) (s .room) nodes;
         whole = omega (arith, d .place, s .whole, length-append (nodesOver p) done, ap (λ (l : List ℕ). length (nodesOver l)) is);
-        small = all-append (λ m. m ≤ 3) (nodesOver p) done (level-small p a) (s .small);
+        small = all-append (λ m. m ≤ 3) (nodesOver p) done (nodes-few p a) (s .small);
       }
-    where
-      level-small : (l : List ℕ) → Asc l → All (λ m. m ≤ 3) (nodesOver l)
-      level-small [] a = unfold nodesOver in tt
-      level-small (x ∷ l) a = nodes-small (nodesOver (x ∷ l)) (over x l a .nodes)
 
 -- ---- the prefixes of the levels
 

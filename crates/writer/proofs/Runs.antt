@@ -1,14 +1,12 @@
 -- Runs of ascending prefixes: shorter prefixes counted one by one, and the nodes of the band above a run.
 -- Assumes nothing.
 use mathlib.Core.Path.{_≡_, refl, sym, ap, _∙_}
-use mathlib.Core.Bool.{Bool, true, false, cond}
 use mathlib.Core.List.{List, [], _∷_, _++_}
-use Prim.Native.Nat.{ℕ, zero, suc, _+_, _*_, _-_, _/_, _^_, _≤_, _<_}
+use Prim.Native.Nat.{ℕ, zero, suc, _+_, _-_, _/_, _^_, _≤_, _<_}
 use native.Mathlib.Omega.{arith}
 use native.Mathlib.Decide.{ℕ-discrete}
-use lib.Dec.{eqb, ltb}
-use borrow.Author.Tests.{eq-eqb, ne-eqb, ltb-true}
-use lib.ListN.{length, getD, take, drop, length-drop, length-append}
+use borrow.Author.Tests.{eq-eqb, ne-eqb}
+use lib.ListN.{length, getD, take, drop, length-drop, take-append-drop}
 use lib.Seq.{take-suc, take-all, take-add, getD-drop, drop-drop}
 use Rattle.format.specs.Trie.{parents}
 use Rattle.format.proofs.Trie.{Above, Asc}
@@ -19,11 +17,7 @@ use Rattle.writer.specs.Run.{differ}
 -- ---- parts of ascending lists
 
 pub asc-drop : (n : ℕ) (l : List ℕ) → Asc l → Asc (drop n l)
-asc-drop zero l a = rw (drop-none l) a
-  where
-    drop-none : (l : List ℕ) → drop 0 l ≡ l
-    drop-none [] = refl
-    drop-none (x ∷ l) = refl
+asc-drop zero l a = a
 asc-drop (suc n) [] a = tt
 asc-drop (suc n) (x ∷ l) a = asc-drop n l (tail x l a)
   where
@@ -38,12 +32,8 @@ pub record Run (x z : ℕ) (l : List ℕ) : Type 0 where
   pub above : Above x rest
   pub end : last x rest ≡ z
 
-take-none : (l : List ℕ) → take 0 l ≡ []
-take-none [] = refl
-take-none (y ∷ l) = refl
-
 first-keys : (x : ℕ) (xs : List ℕ) (n : ℕ) → Above x xs → n ≤ length xs → Run x (getD (x ∷ xs) n 0) (take (suc n) (x ∷ xs))
-first-keys x xs zero a h = record { rest = []; is = ap (x ∷_) (take-none xs); above = tt; end = refl }
+first-keys x xs zero a h = record { rest = []; is = refl; above = tt; end = refl }
 first-keys x [] (suc n) a h = absurd (omega arith)
 first-keys x (y ∷ ys) (suc n) a h =
     let r = first-keys y ys n (a .1) (omega arith) in
@@ -79,13 +69,7 @@ part-more keys a e le lt =
 pub part-rest : (keys : List ℕ) (a e : ℕ) → a ≤ e → drop a keys ≡ part a e keys ++ drop e keys
 part-rest keys a e le =
     let q : a + (e - a) ≡ e = omega arith in
-    sym (cut (e - a) (drop a keys)) ∙ ap (part a e keys ++_) (drop-drop (e - a) a keys ∙ ap (λ (j : ℕ). drop j keys) q)
-  where
-    cut : (n : ℕ) (l : List ℕ) → take n l ++ drop n l ≡ l
-    cut zero [] = refl
-    cut zero (x ∷ l) = refl
-    cut (suc n) [] = refl
-    cut (suc n) (x ∷ l) = ap (x ∷_) (cut n l)
+    sym (take-append-drop (e - a) (drop a keys)) ∙ ap (part a e keys ++_) (drop-drop (e - a) a keys ∙ ap (λ (j : ℕ). drop j keys) q)
 
 -- two parts side by side
 pub part-join : (keys : List ℕ) (a s e : ℕ) → a ≤ s → s ≤ e → part a e keys ≡ part a s keys ++ part s e keys
@@ -97,7 +81,7 @@ part-join keys a s e le le′ =
     ∙ ap (λ (l : List ℕ). part a s keys ++ take (e - s) l) (drop-drop (s - a) a keys ∙ ap (λ (j : ℕ). drop j keys) q)
 
 pub part-none : (keys : List ℕ) (a : ℕ) → part a a keys ≡ []
-part-none keys a = let z : a - a ≡ 0 = omega arith in ap (λ (n : ℕ). take n (drop a keys)) z ∙ take-none (drop a keys)
+part-none keys a = let z : a - a ≡ 0 = omega arith in ap (λ (n : ℕ). take n (drop a keys)) z
 
 pub part-single : (keys : List ℕ) (a : ℕ) → a < length keys → part a (a + 1) keys ≡ getD keys a 0 ∷ []
 part-single keys a lt = part-more keys a a (omega arith) lt ∙ ap (_++ getD keys a 0 ∷ []) (part-none keys a)

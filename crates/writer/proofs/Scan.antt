@@ -1,7 +1,7 @@
 -- The scan that finds where a page of a band ends: subtries join the page while it has at most 240 nodes.
 -- Assumes nothing.
-use mathlib.Core.Path.{_≡_, refl, sym, ap, ap₂, _∙_}
-use mathlib.Core.List.{List, [], _∷_, _++_}
+use mathlib.Core.Path.{_≡_, sym, ap, ap₂, _∙_}
+use mathlib.Core.List.{List, [], _∷_}
 use Prim.Native.Nat.{ℕ, _+_, _-_, _/_, _≤_, _<_}
 use native.Mathlib.Omega.{arith}
 use native.Mathlib.Decide.{decLt}
@@ -11,7 +11,7 @@ use Rattle.format.specs.Page.{firstSubtries, nodeCount}
 use Rattle.format.specs.Writer.{pagesOf}
 use Rattle.format.proofs.Trie.{Asc}
 use Rattle.format.proofs.RunHeads.{heads}
-use Rattle.writer.specs.Run.{PageIs, bandAbove, differ, moreNodes}
+use Rattle.writer.specs.Run.{PageIs, bandAbove, moreNodes}
 use Rattle.writer.proofs.Runs.{Run, run-of, rest-run, part, part-none, part-single, part-all, part-join, part-rest, count-more, differ-same, heads-single}
 use Rattle.writer.proofs.Bands.{nodesIn, nodes-none, no-pages, nodes-are, pages-whole, one-shape, one-count, one-small, nodes-join, pages-cut, first-cut, first-all}
 

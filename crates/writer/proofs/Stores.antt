@@ -5,7 +5,7 @@ use mathlib.Core.List.{List, [], _∷_, _++_, append-assoc}
 use Prim.Native.Nat.{ℕ, zero, suc, _+_, _-_, _/_, _%_, _≤_, _<_}
 use native.Mathlib.Numerals.{add-one}
 use native.Mathlib.Omega.{arith}
-use lib.ListN.{length, getD, take, drop, set, replicate, length-append, length-drop, length-set}
+use lib.ListN.{length, getD, take, drop, set, replicate, length-append, length-drop, length-set, take-append-drop}
 use lib.Seq.{set-set, set-getD, set-at, length-take-le, take-all, take-suc, drop-at, drop-cons, getD-drop}
 use Rattle.format.specs.Page.{twoBytes}
 
@@ -14,12 +14,7 @@ abbrev pub stored : List ℕ → ℕ → List ℕ → List ℕ
 stored l at xs = take at l ++ (xs ++ drop (at + length xs) l)
 
 pub stored-none : (l : List ℕ) (at : ℕ) → l ≡ stored l at []
-stored-none l at = let e : at + 0 ≡ at = omega arith in sym (ap (λ (n : ℕ). take at l ++ drop n l) e ∙ cut at l)
-  where
-    cut : (n : ℕ) (l : List ℕ) → take n l ++ drop n l ≡ l
-    cut zero l = refl
-    cut (suc n) [] = refl
-    cut (suc n) (x ∷ l) = ap (x ∷_) (cut n l)
+stored-none l at = let e : at + 0 ≡ at = omega arith in sym (ap (λ (n : ℕ). take at l ++ drop n l) e ∙ take-append-drop at l)
 
 -- one store more
 pub stored-next : (l : List ℕ) (at : ℕ) (xs : List ℕ) (v : ℕ) → at + length xs < length l → set (stored l at xs) (at + length xs) v ≡ stored l at (xs ++ v ∷ [])
@@ -56,7 +51,7 @@ pub record Cleared (l : List ℕ) (at n : ℕ) (m : List ℕ) (i : ℕ) : Type 0
   pub done : m ≡ stored l at (replicate i 0)
   pub same : length m ≡ length l
 
-length-zeros : (n : ℕ) → length (replicate {A = ℕ} n 0) ≡ n
+pub length-zeros : (n : ℕ) → length (replicate {A = ℕ} n 0) ≡ n
 length-zeros zero = refl
 length-zeros (suc n) = ap suc (length-zeros n)
 

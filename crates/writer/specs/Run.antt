@@ -2,14 +2,13 @@
 -- Assumes nothing.
 use mathlib.Core.Path.{_≡_}
 use mathlib.Core.Bool.{true, cond}
-use mathlib.Core.List.{List, [], _∷_, map, flatMap}
-use Prim.Native.Nat.{ℕ, _+_, _-_, _*_, _/_, _≤_, _<_}
+use mathlib.Core.List.{List, _∷_}
+use Prim.Native.Nat.{ℕ, _+_, _-_, _/_, _≤_, _<_}
 use lib.Dec.{eqb, leb}
 use lib.ListN.{length, getD, take, drop}
-use Rattle.format.specs.Seq.{total}
 use Rattle.format.specs.Page.{nodeCount}
 use Rattle.format.specs.Trie.{parents, levelsOver}
-use Rattle.format.specs.Writer.{ascending, pagesOf, rootsIn, bandsOf}
+use Rattle.format.specs.Writer.{ascending, pagesOf, rootsIn}
 use Rattle.writer.specs.declared.run.PageRun.{PageRun}
 use Rattle.writer.specs.declared.run.Packing.{Packing}
 use Rattle.writer.specs.declared.run.BandCounts.{BandCounts}

@@ -13,7 +13,7 @@ ghost use Prim.Native.Nat.{_+_, _-_, _*_, _≤_, _<_};
 ghost use lib.ListN.{length, take, drop, replicate};
 ghost use Rattle.writer.specs.Writer.{WrittenKeys};
 ghost use Rattle.writer.specs.Run.{Prefixes};
-ghost use Rattle.writer.specs.List.{keyIn, fitting, wovenOver, WrittenFirst, WrittenList};
+ghost use Rattle.writer.specs.List.{packedIn, fitting, packedOver, WrittenFirst, WrittenList};
 ghost use Rattle.writer.specs.Image.{headerOf, pagesFrom, bytesOfBands, Planned, BandRoom, BandDone, ImageRoom};
 
 // The image's length, or the number of the question that got a no.
@@ -166,59 +166,61 @@ pub fn write_keys(keys: &[u32], out: &mut [u8]) -> Written
 }
 
 // ---- the lent list of admissions
-// The borrow checker covers no function over a lent slice of structs, so `weave`, `woven`, `write` and `write_first` are proved by hand.
-// They are thin: the work is `key`, on one admission, and `write_first_keys`, on the keys.
+// The borrow checker covers no function over a lent slice of structs, so `pack_all`, `packed`, `write` and `write_first` are proved by
+// hand. They are thin: each admission goes into one number, and the covered functions weave these into keys and write them.
 
-// The key of an admission.
-fn key(a: Admission) -> u32
-    ensures { λ r. ⌜ r ≡ keyIn a ⌝ }
+// An admission in one number, the holder in its higher 16 bits.
+fn pack(a: Admission) -> u32
+    ensures { λ r. ⌜ r ≡ packedIn a ⌝ }
 {
-    zorder::weave(a.holder, a.slot)
+    (a.holder as u32) * 65536 + (a.slot as u32)
 }
 
-// How many of `n` admissions are woven: all, or none where there are fewer places. So none is read where question 14 gets a no.
-fn to_weave(n: usize, places: usize) -> usize
+// How many of `n` admissions are packed: all, or none where there are fewer places. So none is read where question 14 gets a no.
+fn to_pack(n: usize, places: usize) -> usize
     ensures { λ r. ⌜ r ≡ fitting n places ⌝ }
 {
     if places < n { 0 } else { n }
 }
 
-// Writes the image of the first `n` keys.
-fn write_first_keys(keys: [u32; 4096], n: usize, out: &mut [u8]) -> Written
-    ensures { λ r. ⌜ WrittenFirst keys n (now (out .entry)) r (now (out .exit)) ⌝ }
+// Weaves the first `n` packed admissions into keys, and writes their image.
+fn write_packed(pairs: [u32; 4096], n: usize, out: &mut [u8]) -> Written
+    ensures { λ r. ⌜ WrittenFirst pairs n (now (out .entry)) r (now (out .exit)) ⌝ }
 {
     if 4096 < n {
         return Written::Refused(14);
     }
+    let mut keys = pairs;
+    zorder::weave_all(&mut keys[0..n]);
     write_keys(&keys[0..n], out)
 }
 
-// Puts the keys of the list into the first places.
-fn weave(list: &[Admission], keys: &mut [u32])
-    ensures { λ _. ⌜ now (keys .exit) ≡ wovenOver (now (list .entry)) (now (keys .entry)) ⌝ }
+// Packs the list into the first places.
+fn pack_all(list: &[Admission], pairs: &mut [u32])
+    ensures { λ _. ⌜ now (pairs .exit) ≡ packedOver (now (list .entry)) (now (pairs .entry)) ⌝ }
 {
-    let n = to_weave(list.len(), keys.len());
+    let n = to_pack(list.len(), pairs.len());
     let mut i: usize = 0;
     while i < n {
-        keys[i] = key(list[i]);
+        pairs[i] = pack(list[i]);
         i = i + 1;
     }
 }
 
-// The keys of the list, and zeros after them.
-fn woven(list: &[Admission]) -> [u32; 4096]
-    ensures { λ r. ⌜ r ≡ wovenOver (now (list .entry)) (replicate 4096 0) ⌝ }
+// The packed list, and zeros after it.
+fn packed(list: &[Admission]) -> [u32; 4096]
+    ensures { λ r. ⌜ r ≡ packedOver (now (list .entry)) (replicate 4096 0) ⌝ }
 {
-    let mut keys = [0; 4096];
-    weave(list, &mut keys);
-    keys
+    let mut pairs = [0; 4096];
+    pack_all(list, &mut pairs);
+    pairs
 }
 
 // The job: writes the image of the list into the first bytes of the buffer, and returns its length.
 pub fn write(list: &[Admission], out: &mut [u8]) -> Written
     ensures { λ r. ⌜ WrittenList (now (list .entry)) (now (out .entry)) r (now (out .exit)) ⌝ }
 {
-    write_first_keys(woven(list), list.len(), out)
+    write_packed(packed(list), list.len(), out)
 }
 
 // The same for a caller that owns an array of admissions, of which the first `n` are the list: it needs no proof by hand.

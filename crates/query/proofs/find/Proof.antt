@@ -1,5 +1,4 @@
 -- `query::find` meets its contract. Assumes nothing.
-use mathlib.Core.Path.{sym, _∙_}
 use native.Mathlib.Omega.{arith}
 use borrow.Author.Needs.{needs}
 use Rattle.checker.proofs.After.{returned-count, accepted-image}

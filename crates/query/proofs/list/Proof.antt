@@ -1,6 +1,5 @@
 -- `query::list` meets its contract. Assumes nothing.
 use mathlib.Core.Path.{sym, _∙_}
-use native.Mathlib.Omega.{arith}
 use borrow.Author.Needs.{needs}
 use borrow.Author.Tests.{not-true, not-false, ltb-true, ltb-false}
 use Rattle.checker.proofs.After.{returned-count, accepted-image}

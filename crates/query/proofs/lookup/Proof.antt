@@ -1,6 +1,5 @@
 -- `query::lookup` meets its contract. Assumes nothing.
-use mathlib.Core.Path.{refl, sym, _∙_}
-use native.Mathlib.Omega.{arith}
+use mathlib.Core.Path.{_∙_}
 use borrow.Author.Needs.{needs}
 use Rattle.checker.proofs.After.{returned-count, accepted-image}
 use Rattle.nodes.proofs.Numbers.{bytes-of}

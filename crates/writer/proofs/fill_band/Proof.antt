@@ -1,5 +1,4 @@
 -- `writer::fill_band` meets its contract. The invariant is `Pages`. Assumes nothing.
-use mathlib.Core.Path.{_∙_}
 use Prim.Native.Nat.{_-_}
 use native.Mathlib.Omega.{arith}
 use borrow.Author.Needs.{needs}
@@ -47,44 +46,8 @@ loop-again c = pages-next _ _ _ _ _ _ _ _ (c .before .before .before .before .be
 returns : tie.Need-returns Inv-loop μ-loop
 returns c = pages-end _ _ _ _ _ _ _ _ (c .before .loop .inv) (c .loop-test .left)
 
-mul-page-run : tie.Need-mul-page-run Inv-loop μ-loop
-mul-page-run c = search needs
-
-sub-page-run : tie.Need-sub-page-run Inv-loop μ-loop
-sub-page-run c = search needs
-
-part-page-run-start : tie.Need-part-page-run-start Inv-loop μ-loop
-part-page-run-start c = search needs
-
-part-page-run-end : tie.Need-part-page-run-end Inv-loop μ-loop
-part-page-run-end c = search needs
-
-part-fill-page-start : tie.Need-part-fill-page-start Inv-loop μ-loop
-part-fill-page-start c = search needs
-
-part-fill-page-end : tie.Need-part-fill-page-end Inv-loop μ-loop
-part-fill-page-end c = search needs
-
-mul-fill-page : tie.Need-mul-fill-page Inv-loop μ-loop
-mul-fill-page c = search needs
-
-sub-fill-page-2 : tie.Need-sub-fill-page-2 Inv-loop μ-loop
-sub-fill-page-2 c = search needs
-
-part-fill-page-start-2 : tie.Need-part-fill-page-start-2 Inv-loop μ-loop
-part-fill-page-start-2 c = search needs
-
-part-fill-page-end-2 : tie.Need-part-fill-page-end-2 Inv-loop μ-loop
-part-fill-page-end-2 c = search needs
-
 add-number : tie.Need-add-number Inv-loop μ-loop
 add-number c = omega (arith, number-within _ _ _ _ _ _ _ _ (c .before .before .before .before .before .before .before .before .before .before .before .before .before .before .before .before .before .before .loop .inv) (c .before .before .before .before .before .before .before .before .before .before .before .before .before .before .before .before .before .loop-test .taken) _ (c .before .before .before .before .before .before .before .before .before .before .before .before .before .before .page-run .ensures), c .before .before .before .before .before .before .before .before .before .before .before .before .before .before .before .before .before .before .loop .inv .same-out, c .before .before .before .before .before .before .before .before .before .before .before .before .before .before .before .before .before .before .before .before .before .good .1 .0 .0)
-
-same-length : tie.Need-same-length Inv-loop μ-loop
-same-length c = search needs
-
-same-length-2 : tie.Need-same-length-2 Inv-loop μ-loop
-same-length-2 c = search needs
 
 pub fill-band-spec : {M : Type 1} → statement M
 fill-band-spec =
@@ -93,26 +56,26 @@ fill-band-spec =
     Inv-loop
     μ-loop
     loop-holds
-    mul-page-run
-    sub-page-run
-    part-page-run-start
-    part-page-run-end
+    (λ c. search needs)
+    (λ c. search needs)
+    (λ c. search needs)
+    (λ c. search needs)
     page-run-requires
     add-end
     mul-at
     sub-fill-page
-    part-fill-page-start
-    part-fill-page-end
-    mul-fill-page
-    sub-fill-page-2
-    part-fill-page-start-2
-    part-fill-page-end-2
+    (λ c. search needs)
+    (λ c. search needs)
+    (λ c. search needs)
+    (λ c. search needs)
+    (λ c. search needs)
+    (λ c. search needs)
     fill-page-requires
     sub-move-down
     move-down-requires
     add-number
     loop-less
     loop-again
-    same-length
-    same-length-2
+    (λ c. search needs)
+    (λ c. search needs)
     returns)

@@ -1,4 +1,4 @@
--- `writer::write` meets its contract: a walk of its MIR, by hand. `woven` makes the keys of the list, and `write_first_keys`, the covered core, is handed the keys, the list's count and the buffer. All that the proof knows of the two is that each meets its contract.
+-- `writer::write` meets its contract: a walk of its MIR, by hand. `packed` makes the keys of the list, and `write_packed`, the covered core, is handed the keys, the list's count and the buffer. All that the proof knows of the two is that each meets its contract.
 -- The buffer is not needed after the call: it goes to the callee at its own lifetime, share and name (`gave-slice`).
 -- Assumes nothing.
 use mathlib.Core.Path.{_≡_, refl}
@@ -38,21 +38,21 @@ use denote.Triple.Table.{entered, cited}
 use denote.Triple.Walked.{says, Stays, stay-none-slice, gave-slice, walkOf, goes-none-slice, goes-gave-slice, Walks, ends-at, walked, walk-meets}
 use denote.Triple.Clauses.{Lasts, ensured, lasts}
 use denote.Exit.{yes}
-use Rattle.writer.specs.List.{wovenOver, WrittenFirst, WrittenList}
+use Rattle.writer.specs.List.{packedOver, WrittenFirst, WrittenList}
 use Rattle.writer.proofs.Weaving.{list-written}
 use Rattle.format.specs.declared.Admission.{Admission}
 use Rattle.writer.specs.declared.Written.{Written}
 use Rattle.format.proofs.Admission as T
 use Rattle.writer.proofs.Written as S
 use Rattle.writer.proofs.Written.Laws as S′
-use Rattle.writer.proofs.woven as woven
-use Rattle.writer.proofs.woven.Symbol as woven-def
-use Rattle.writer.proofs.woven.Symbol.{name as #writer·woven}
-use Rattle.writer.proofs.woven.Met as woven-thm
-use Rattle.writer.proofs.write_first_keys as core
-use Rattle.writer.proofs.write_first_keys.Symbol as core-def
-use Rattle.writer.proofs.write_first_keys.Symbol.{name as #writer·write-first-keys}
-use Rattle.writer.proofs.write_first_keys.Met as core-thm
+use Rattle.writer.proofs.packed as woven
+use Rattle.writer.proofs.packed.Symbol as woven-def
+use Rattle.writer.proofs.packed.Symbol.{name as #writer·packed}
+use Rattle.writer.proofs.packed.Met as woven-thm
+use Rattle.writer.proofs.write_packed as core
+use Rattle.writer.proofs.write_packed.Symbol as core-def
+use Rattle.writer.proofs.write_packed.Symbol.{name as #writer·write-packed}
+use Rattle.writer.proofs.write_packed.Met as core-thm
 use Rattle.writer.proofs.write.Key.{name as #writer·write}
 use Rattle.writer.proofs.write as f
 use Rattle.writer.proofs.write.Statement as stated
@@ -76,9 +76,9 @@ module _ {M : Type 1} (𝓤 : URA M) (H : Heap 𝓤) (A : Atoms 𝓤) (W : Given
   abbrev n : ℕ
   n = length (s .now)
 
-  -- the keys that `woven` returns
+  -- the keys that `packed` returns
   abbrev made : List ℕ
-  made = wovenOver (now s) (replicate 4096 0)
+  made = packedOver (now s) (replicate 4096 0)
 
   abbrev x : RefT (List ℕ)
   x = record { ptr = (b, o); name = γ; now = ys }
@@ -101,7 +101,7 @@ module _ {M : Type 1} (𝓤 : URA M) (H : Heap 𝓤) (A : Atoms 𝓤) (W : Given
   abbrev Post : Val → SProp 𝓤
   Post = walkOf 𝓤 H A f.ended stayed (f.clauses 𝓤 H A mem run) .post (((κ, (κ′, tt)), (q, (p, tt)), tt, (s, (x, tt)), at), tt)
 
-  -- what `write_first_keys` says of its result and of the buffer at exit
+  -- what `write_packed` says of its result and of the buffer at exit
   abbrev Says : Written → List ℕ → Type 0
   Says t zs = WrittenFirst made n ys t zs
 
@@ -136,16 +136,16 @@ module _ {M : Type 1} (𝓤 : URA M) (H : Heap 𝓤) (A : Atoms 𝓤) (W : Given
   abbrev Last : Type 0
   Last = Lasts core.ended (κ′, tt) (made, (n, (x, tt)))
 
-  module _ (C : Calls 𝓤 H) (Λ : Loops 𝓤 H) (fm : FmC 𝓤 H (W .laws) C) (known-woven : Triple 𝓤 (C #writer·woven) (Woven 𝓤 H A mem run)) (known-core : Triple 𝓤 (C #writer·write-first-keys) (Core 𝓤 H A mem run)) where
+  module _ (C : Calls 𝓤 H) (Λ : Loops 𝓤 H) (fm : FmC 𝓤 H (W .laws) C) (known-woven : Triple 𝓤 (C #writer·packed) (Woven 𝓤 H A mem run)) (known-core : Triple 𝓤 (C #writer·write-packed) (Core 𝓤 H A mem run)) where
     walk : Room T.the-row n → Room u8 (length ys) → ent 𝓤 (onEntry 𝓤 H A f.signature (κ, (κ′, tt)) (q, (p, tt)) (s, (x, tt)) at) (WpFn 𝓤 H C Λ code.function (v ∷ w ∷ []) Post)
     walk gn gy =
         qed W ((‵ (flft κ q) ⊛ (‵ (flft κ′ p) ⊛ ‵ ftrue)) ∷ ‵ (owns (ShrSlice (named 0) κ T.the-row ∷ MutSlice (named 1) κ′ u8 ∷ []) (s, (x, tt)) at) ∷ []) ∵ enter ! C Λ code.function (v ∷ w ∷ []) _ $
         alloc1 ! (λ l₀. alloc1 ! (λ l₁. alloc1 ! (λ l₂. alloc1 ! (λ l₃. alloc1 ! (λ l₄. alloc1 ! (λ l₅. alloc1 ! (λ l₆. alloc0 ! $ params1 ! $
         pass1 ! (init ! 10 refl (tt, (tt, (record { fits = gn .0 }, tt)))) $ pass1 ! (init ! 8 refl (tt, (tt, (record { fits = gy .0 }, tt)))) $ pass0 ! $
-        -- `woven`
+        -- `packed`
         move ! (15 ∷ []) $ fsplit ! $ use1 W (‵ Own ⊛ ‵ Own) (shr-slice-copy 𝓤 H A W (named 0) κ T.the-row .twice s (v ∷ [])) $ split ! $ move ! (17 ∷ []) $ split ! $
         nothing ! $ move ! (3 ∷ 0 ∷ []) $ fjoin ! $ nothing ! $ move ! (2 ∷ 0 ∷ []) $ join ! $ use2 W (raw (Woven 𝓤 H A mem run .pre to-woven)) goes-woven $
-        -- [what `woven` asks; out's token; what list owns; what out owns; _6; …; _5; …; _4; …; _3; …; _2; …; _1; …; _0; …]
+        -- [what `packed` asks; out's token; what list owns; what out owns; _6; …; _5; …; _4; …; _3; …; _2; …; _1; …; _0; …]
         calls-at ! fm (Woven 𝓤 H A mem run) known-woven to-woven (and-then ! (load ! (from ! (stop !)) (look ! 14 refl)) (no-more !)) (λ u₁.
         use1 W (later (some (λ (r : List ℕ). ((‵ (flft κ q) ⊛ ‵ ftrue) ⊛ ‵ (Keys .own r (u₁ ∷ []))) ⊛ raw (ensured 𝓤 H A woven.ended (woven.clauses 𝓤 H A mem run) (κ, tt) (s, tt) tt r)))) (id⊢ 𝓤 _) $ await ! tt $ pick ! (λ r.
         split ! $ move ! (1 ∷ []) $ use1 W (raw (fact 𝓤 (r ≡ made))) (woven-said r) $ heard ! (r ≡ made) (λ e₁. split ! $
@@ -156,10 +156,10 @@ module _ {M : Type 1} (𝓤 : URA M) (H : Heap 𝓤) (A : Atoms 𝓤) (W : Given
         assigns ! (of-opd ! (load ! (from ! (fld ! refl (stop !))) (look-in ! 15 (sub ! 1 refl (whole !))))) (from ! (stop !)) (init ! 9 refl (tt, record { fits = gn .0 })) $
         assigns ! (addr ! (from ! (fld ! refl (hop ! (look-in ! 13 (sub ! 0 refl (whole !))) (stop !))))) (from ! (stop !)) (init ! 7 refl (tt, tt)) $
         assigns ! (agg ! (and-then ! (load ! (from ! (stop !)) (look ! 7 refl)) (and-then ! (load ! (from ! (fld ! refl (stop !))) (look-in ! 13 (sub ! 1 refl (whole !)))) (no-more !)))) (from ! (stop !)) (init ! 5 refl (tt, (tt, (record { fits = gy .0 }, tt)))) $
-        -- `write_first_keys`
+        -- `write_packed`
         owned ! usize (Is usize) (uint-makes 𝓤 H A W w64) n (vint w64 n ∷ []) (refl, gn .0) $ move ! (0 ∷ 5 ∷ []) $ fjoin ! $ move ! (1 ∷ 0 ∷ []) $ fjoin ! $ move ! (2 ∷ 0 ∷ []) $
         use2 W (raw (Core 𝓤 H A mem run .pre (to-core u₁))) (goes-core u₁) $
-        -- [what `write_first_keys` asks; list's token; what list owns; _6; …; _5; …; _4; …; _3; …; _2; …; _1; …; _0; …]
+        -- [what `write_packed` asks; list's token; what list owns; _6; …; _5; …; _4; …; _3; …; _2; …; _1; …; _0; …]
         calls-at ! fm (Core 𝓤 H A mem run) known-core (to-core u₁) (and-then ! (load ! (from ! (stop !)) (look ! 9 refl)) (and-then ! (load ! (from ! (stop !)) (look ! 7 refl)) (and-then ! (load ! (from ! (stop !)) (look ! 3 refl)) (no-more !)))) (λ u.
         use1 W (later (some (λ (t : Written). ((‵ (flft κ′ p) ⊛ ‵ ftrue) ⊛ ‵ (S.the-row .own t (u ∷ []))) ⊛ raw (ensured 𝓤 H A core.ended (core.clauses 𝓤 H A mem run) (κ′, tt) (made, (n, (x, tt))) tt t)))) (id⊢ 𝓤 _) $ await ! tt $ pick ! (λ t.
         split ! $ move ! (1 ∷ []) $ use1 W (some (λ (ws : Last). ‵ (lasts core.ended (κ′, tt) (made, (n, (x, tt))) ws) ⊛ raw (fact 𝓤 (Says t (ws .1 .1 .0))))) (id⊢ 𝓤 _) $ pick ! (λ ws.
@@ -172,11 +172,11 @@ module _ {M : Type 1} (𝓤 : URA M) (H : Heap 𝓤) (A : Atoms 𝓤) (W : Given
         keep ! (0 ∷ 1 ∷ 2 ∷ 6 ∷ 7 ∷ []) $ by ! (exits t u (ws .1 .1 .0) (list-written (now s) ys t (ws .1 .1 .0) e) len))))))))))))))))))
 
 module _ {M : Type 1} (𝓤 : URA M) (H : Heap 𝓤) (A : Atoms 𝓤) (W : Given 𝓤 H A) (mem : Memory → SProp 𝓤) (run : Routine → Fun 𝓤) where
-  walks : (C : Calls 𝓤 H) (Λ : Loops 𝓤 H) → FmC 𝓤 H (W .laws) C → Triple 𝓤 (C #writer·woven) (Woven 𝓤 H A mem run) → Triple 𝓤 (C #writer·write-first-keys) (Core 𝓤 H A mem run) → Walks 𝓤 H A f.ended stayed (WpFn 𝓤 H C Λ code.function) (f.clauses 𝓤 H A mem run)
+  walks : (C : Calls 𝓤 H) (Λ : Loops 𝓤 H) → FmC 𝓤 H (W .laws) C → Triple 𝓤 (C #writer·packed) (Woven 𝓤 H A mem run) → Triple 𝓤 (C #writer·write-packed) (Core 𝓤 H A mem run) → Walks 𝓤 H A f.ended stayed (WpFn 𝓤 H C Λ code.function) (f.clauses 𝓤 H A mem run)
   walks C Λ fm k₁ k₂ = walked 𝓤 H A f.ended stayed (f.clauses 𝓤 H A mem run) (WpFn 𝓤 H C Λ code.function) (λ κs. (slice-vals, (slice-vals, tt))) (λ κs. (shr-slice-tells (named 0) (κs .0) T.the-row, (mut-slice-tells (named 1) (κs .1 .0) u8, tt)))
       (λ κs qs bounds a g are. via 𝓤 _ (fst∗ 𝓤 _ (emp 𝓤)) (walk 𝓤 H A W mem run (κs .0) (κs .1 .0) (qs .0) (qs .1 .0) (a .0) (a .1 .0 .ptr .0) (a .1 .0 .ptr .1) (a .1 .0 .name) (a .1 .0 .now) C Λ fm k₁ k₂ (are .0 .0 .1) (are .1 .0 .0 .1)))
 
-meets : {M : Type 1} (𝓤 : URA M) (H : Heap 𝓤) (A : Atoms 𝓤) (W : Given 𝓤 H A) (mem : Memory → SProp 𝓤) (run : Routine → Fun 𝓤) (𝓣 : Tables 𝓤 H) → Triple 𝓤 (𝓣 .C #writer·woven) (Woven 𝓤 H A mem run) → Triple 𝓤 (𝓣 .C #writer·write-first-keys) (Core 𝓤 H A mem run)
+meets : {M : Type 1} (𝓤 : URA M) (H : Heap 𝓤) (A : Atoms 𝓤) (W : Given 𝓤 H A) (mem : Memory → SProp 𝓤) (run : Routine → Fun 𝓤) (𝓣 : Tables 𝓤 H) → Triple 𝓤 (𝓣 .C #writer·packed) (Woven 𝓤 H A mem run) → Triple 𝓤 (𝓣 .C #writer·write-packed) (Core 𝓤 H A mem run)
     → Meets 𝓤 H A f.signature (WpFn 𝓤 H (𝓣 .C) (𝓣 .Λ) code.function) (f.spec 𝓤 H A mem run)
 meets 𝓤 H A W mem run 𝓣 k₁ k₂ = walk-meets 𝓤 H A f.ended stayed W (goes-none-slice 𝓤 H A W 2 (0 ∷ []) tt (plain (λ _. T.the-row)) yes, (goes-gave-slice 𝓤 H A W 2 1 tt (plain (λ _. u8)), tt)) (f.clauses 𝓤 H A mem run) (WpFn 𝓤 H (𝓣 .C) (𝓣 .Λ) code.function) (WpFn-mono 𝓤 H (W .laws) 𝓣 code.function)
     (walks 𝓤 H A W mem run (𝓣 .C) (𝓣 .Λ) (fmOf 𝓤 H (W .laws) 𝓣) k₁ k₂)
@@ -187,5 +187,5 @@ write-spec 𝓤 H 𝓜 𝓖 𝓡 =
     entered 𝓤 H (tripleOf 𝓤 H (𝓖 .A) f.signature (f.spec 𝓤 H (𝓖 .A) (𝓜 .mem) (𝓡 .run)))
     (tables 𝓤 H 𝓜 𝓡 code.env .C) (tables 𝓤 H 𝓜 𝓡 code.env .Λ) #writer·write code.function (code.unfolded 𝓤 H 𝓜 𝓡)
     (meets 𝓤 H (𝓖 .A) (givenOf 𝓤 H 𝓜 𝓖) (𝓜 .mem) (𝓡 .run) (tablesOf 𝓤 H 𝓜 (tables 𝓤 H 𝓜 𝓡 code.env))
-    (cited 𝓤 H (Woven 𝓤 H (𝓖 .A) (𝓜 .mem) (𝓡 .run)) 𝓜 𝓡 code.env #writer·woven woven-def.routine code.calls-writer·woven (woven-thm.met 𝓤 H 𝓜 𝓖 𝓡))
-    (cited 𝓤 H (Core 𝓤 H (𝓖 .A) (𝓜 .mem) (𝓡 .run)) 𝓜 𝓡 code.env #writer·write-first-keys core-def.routine code.calls-writer·write-first-keys (core-thm.met 𝓤 H 𝓜 𝓖 𝓡)))
+    (cited 𝓤 H (Woven 𝓤 H (𝓖 .A) (𝓜 .mem) (𝓡 .run)) 𝓜 𝓡 code.env #writer·packed woven-def.routine code.calls-writer·packed (woven-thm.met 𝓤 H 𝓜 𝓖 𝓡))
+    (cited 𝓤 H (Core 𝓤 H (𝓖 .A) (𝓜 .mem) (𝓡 .run)) 𝓜 𝓡 code.env #writer·write-packed core-def.routine code.calls-writer·write-packed (core-thm.met 𝓤 H 𝓜 𝓖 𝓡)))

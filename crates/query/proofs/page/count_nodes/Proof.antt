@@ -4,7 +4,7 @@ use Prim.Native.Nat.{ℕ, _+_}
 use native.Mathlib.Omega.{arith}
 use borrow.Author.Needs.{needs}
 use Rattle.nodes.specs.Words.{onesBefore}
-use Rattle.query.specs.Page.{thirdIn, fourthIn}
+use Rattle.query.specs.Page.{fourthIn}
 use Rattle.query.proofs.page.count_nodes.Statement.{statement}
 use Rattle.query.proofs.page.count_nodes.Tie as tie
 

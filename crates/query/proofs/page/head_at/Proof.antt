@@ -2,7 +2,6 @@
 use mathlib.Core.Path.{ap, _∙_}
 use Prim.Native.Nat.{ℕ, _+_, _*_}
 use native.Mathlib.Omega.{arith}
-use borrow.Author.Needs.{needs}
 use Rattle.format.specs.Page.{numberAt}
 use Rattle.query.proofs.Opened.{number-is, in-image}
 use Rattle.query.proofs.page.head_at.Statement.{statement}

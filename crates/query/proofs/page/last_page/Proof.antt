@@ -1,7 +1,6 @@
 -- `query::page::last_page` meets its contract. The loop's invariant: the page is `low` or a later one below `high`. Assumes nothing.
 use Prim.Native.Nat.{_-_}
 use native.Mathlib.Omega.{arith}
-use borrow.Author.Needs.{needs}
 use Rattle.query.proofs.Search.{Search, search-start, search-up, search-down, search-end}
 use Rattle.query.proofs.page.last_page.Statement.{statement}
 use Rattle.query.proofs.page.last_page.Tie as tie

@@ -1,6 +1,6 @@
 -- `query::way::follow` meets its contract. The loop's invariant: the place on the key's way at the level. Assumes nothing.
 use mathlib.Core.Path.{_≡_, refl, ap, _∙_}
-use Prim.Native.Nat.{ℕ, _-_}
+use Prim.Native.Nat.{_-_}
 use native.Mathlib.Omega.{arith}
 use borrow.Author.Needs.{needs}
 use Rattle.format.proofs.Descent.{bit}

@@ -3,7 +3,7 @@ use mathlib.Core.Path.{refl, ap, subst, _∙_}
 use Prim.Native.Nat.{_-_}
 use native.Mathlib.Omega.{arith}
 use borrow.Author.Needs.{needs}
-use Rattle.format.specs.Image.{pageCount, rootCount}
+use Rattle.format.specs.Image.{rootCount}
 use Rattle.query.specs.Way.{WayRight}
 use Rattle.query.proofs.Pages.{few-pages}
 use Rattle.query.proofs.Path.{Path, path-start, path-root, path-at, path-next, way-out, path-end, path-rank, first-small, page-number-small}

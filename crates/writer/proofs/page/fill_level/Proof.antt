@@ -3,9 +3,9 @@
 use mathlib.Core.Path.{_∙_}
 use native.Mathlib.Omega.{arith}
 use borrow.Author.Needs.{needs}
-use lib.ListN.{length, set, length-set}
+use lib.ListN.{set, length-set}
 use Rattle.writer.proofs.Stores.{put-back}
-use Rattle.writer.proofs.Levels.{Scanned, end-some, start-small, scanned-start, same-small, scanned-same, node-some, first-some, other-small, scanned-other, scanned-end}
+use Rattle.writer.proofs.Levels.{Scanned, end-some, start-small, scanned-start, same-small, scanned-same, node-some, other-small, scanned-other, scanned-end}
 use Rattle.writer.proofs.page.fill_level.Statement.{statement}
 use Rattle.writer.proofs.page.fill_level.Tie as tie
 

@@ -1,8 +1,6 @@
 -- `writer::page::fill_levels` meets its contract: the levels are reached one after the other. Assumes nothing.
-use mathlib.Core.Path.{_∙_}
-use native.Mathlib.Omega.{arith}
 use borrow.Author.Needs.{needs}
-use Rattle.writer.proofs.Pages.{Reached, reached-room, reached-next, reached-start, reached-end}
+use Rattle.writer.proofs.Pages.{reached-room, reached-next, reached-start, reached-end}
 use Rattle.writer.proofs.page.fill_levels.Statement.{statement}
 use Rattle.writer.proofs.page.fill_levels.Tie as tie
 

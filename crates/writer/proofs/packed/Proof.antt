@@ -1,4 +1,4 @@
--- `writer::woven` meets its contract: a walk of its MIR, by hand. A local array is made, lent as a slice for the call of `weave`, taken back, and returned. All that the proof knows of `weave` is that it meets its contract.
+-- `writer::packed` meets its contract: a walk of its MIR, by hand. A local array is made, lent as a slice for the call of `pack_all`, taken back, and returned. All that the proof knows of `pack_all` is that it meets its contract.
 -- Assumes nothing.
 use mathlib.Core.Path.{_≡_, refl, sym, _∙_, subst}
 use Prim.Native.Nat.{ℕ, _<_}
@@ -45,18 +45,18 @@ use denote.Triple.Table.{entered, cited}
 use denote.Triple.Walked.{says, Stays, stay-none-slice, walkOf, goes-none-slice, Walks, ends-at, walked, walk-meets}
 use denote.Triple.Clauses.{ensured, lasts}
 use denote.Exit.{yes}
-use Rattle.writer.specs.List.{wovenOver}
+use Rattle.writer.specs.List.{packedOver}
 use Rattle.format.specs.declared.Admission.{Admission}
 use Rattle.writer.proofs.Local as local
 use Rattle.format.proofs.Admission as T
-use Rattle.writer.proofs.weave as weave
-use Rattle.writer.proofs.weave.Symbol as weave-def
-use Rattle.writer.proofs.weave.Symbol.{name as #writer·weave}
-use Rattle.writer.proofs.weave.Met as weave-thm
-use Rattle.writer.proofs.woven.Key.{name as #writer·woven}
-use Rattle.writer.proofs.woven as f
-use Rattle.writer.proofs.woven.Statement as stated
-use Rattle.writer.proofs.woven.Code as code
+use Rattle.writer.proofs.pack_all as weave
+use Rattle.writer.proofs.pack_all.Symbol as weave-def
+use Rattle.writer.proofs.pack_all.Symbol.{name as #writer·pack-all}
+use Rattle.writer.proofs.pack_all.Met as weave-thm
+use Rattle.writer.proofs.packed.Key.{name as #writer·packed}
+use Rattle.writer.proofs.packed as f
+use Rattle.writer.proofs.packed.Statement as stated
+use Rattle.writer.proofs.packed.Code as code
 
 -- the array's count, its row, and the array that is made
 abbrev N : ℕ
@@ -96,7 +96,7 @@ module _ {M : Type 1} (𝓤 : URA M) (H : Heap 𝓤) (A : Atoms 𝓤) (W : Given
   abbrev Post : Val → SProp 𝓤
   Post = walkOf 𝓤 H A f.ended stayed (f.clauses 𝓤 H A mem run) .post (((κ, tt), (q, tt), tt, (s, tt), at), tt)
 
-  exits : (zs : List ℕ) (u : Val) → zs ≡ wovenOver (now s) zeros → ent 𝓤 (⋆ 𝓤 H A (‵ (Keys .own zs (u ∷ [])) ∷ ‵ (flft κ q) ∷ ‵ Own ∷ [])) (Post u)
+  exits : (zs : List ℕ) (u : Val) → zs ≡ packedOver (now s) zeros → ent 𝓤 (⋆ 𝓤 H A (‵ (Keys .own zs (u ∷ [])) ∷ ‵ (flft κ q) ∷ ‵ Own ∷ [])) (Post u)
   exits zs u e =
       qed W (‵ (Keys .own zs (u ∷ [])) ∷ ‵ (flft κ q) ∷ ‵ Own ∷ []) ∵
       suffices ! _ (ends-at 𝓤 H A f.ended stayed (f.clauses 𝓤 H A mem run) W (((κ, tt), (q, tt), tt, (s, tt), at), tt) u zs (tt, tt) (tt, tt)) $ says ! e $
@@ -119,7 +119,7 @@ module _ {M : Type 1} (𝓤 : URA M) (H : Heap 𝓤) (A : Atoms 𝓤) (W : Given
     goes : ent 𝓤 (⋆ 𝓤 H A ((‵ (flft κ q) ⊛ (‵ (flft (α ∷ []) fullShare) ⊛ ‵ ftrue)) ∷ ‵ (fsep Own (fsep (MutSlice (named 1) (α ∷ []) u32 .own x (w ∷ [])) ftrue)) ∷ [])) (Weave 𝓤 H A mem run .pre to)
     goes = qed W ((‵ (flft κ q) ⊛ (‵ (flft (α ∷ []) fullShare) ⊛ ‵ ftrue)) ∷ ‵ (fsep Own (fsep (MutSlice (named 1) (α ∷ []) u32 .own x (w ∷ [])) ftrue)) ∷ []) ∵ join ! $ frame ! $ done !
 
-  module _ (C : Calls 𝓤 H) (Λ : Loops 𝓤 H) (fm : FmC 𝓤 H (W .laws) C) (known : Triple 𝓤 (C #writer·weave) (Weave 𝓤 H A mem run)) where
+  module _ (C : Calls 𝓤 H) (Λ : Loops 𝓤 H) (fm : FmC 𝓤 H (W .laws) C) (known : Triple 𝓤 (C #writer·pack-all) (Weave 𝓤 H A mem run)) where
     walk : Is (ShrSlice (named 0) κ T.the-row) s (v ∷ []) → ent 𝓤 (onEntry 𝓤 H A f.signature (κ, tt) (q, tt) (s, tt) at) (WpFn 𝓤 H C Λ code.function (v ∷ []) Post)
     walk p =
         qed W ((‵ (flft κ q) ⊛ ‵ ftrue) ∷ ‵ (owns (ShrSlice (named 0) κ T.the-row ∷ []) (s, tt) at) ∷ []) ∵ enter ! C Λ code.function (v ∷ []) _ $
@@ -138,11 +138,11 @@ module _ {M : Type 1} (𝓤 : URA M) (H : Heap 𝓤) (A : Atoms 𝓤) (W : Given
         move ! (15 ∷ []) $ fsplit ! $ use1 W (‵ Own ⊛ ‵ Own) (shr-slice-copy 𝓤 H A W (named 0) κ T.the-row .twice s (v ∷ [])) $ split ! $
         nothing ! $ move ! (4 ∷ 0 ∷ []) $ fjoin ! $ move ! (1 ∷ 0 ∷ []) $ fjoin ! $ move ! (16 ∷ []) $ split ! $ move ! (6 ∷ 1 ∷ []) $ join ! $ move ! (1 ∷ 0 ∷ []) $ join ! $
         use2 W (raw (Weave 𝓤 H A mem run .pre (to α δ l₂))) (goes α δ l₂) $
-        -- [what `weave` asks; what list owns; true; the lender's part; _5; …; _4; …; _3; …; that _2 dies; _1; …; _0; …]
+        -- [what `pack_all` asks; what list owns; true; the lender's part; _5; …; _4; …; _3; …; that _2 dies; _1; …; _0; …]
         calls-at ! fm (Weave 𝓤 H A mem run) known (to α δ l₂) (and-then ! (load ! (from ! (stop !)) (look ! 11 refl)) (and-then ! (load ! (from ! (stop !)) (look ! 4 refl)) (no-more !))) (λ u.
         use1 W (later (some (λ (r : Unit {0}). ((‵ (flft κ q) ⊛ (‵ (flft (α ∷ []) fullShare) ⊛ ‵ ftrue)) ⊛ ‵ (unit .own r (u ∷ []))) ⊛ raw (ensured 𝓤 H A weave.ended (weave.clauses 𝓤 H A mem run) (κ, (α ∷ [], tt)) (s, (x α δ l₂, tt)) tt r)))) (id⊢ 𝓤 _) $ await ! tt $ pick ! (λ r.
-        split ! $ move ! (1 ∷ []) $ use1 W (some (λ (ws : Unit {0} × (List ℕ × Unit {0})). ‵ (lasts weave.ended (κ, (α ∷ [], tt)) (s, (x α δ l₂, tt)) ws) ⊛ raw (fact 𝓤 (ws .1 .0 ≡ wovenOver (now s) zeros)))) (id⊢ 𝓤 _) $ pick ! (λ ws.
-        split ! $ move ! (1 ∷ []) $ heard ! (ws .1 .0 ≡ wovenOver (now s) zeros) (λ e. fsplit ! $ move ! (1 ∷ []) $ fsplit ! $ fsplit ! $ move ! (1 ∷ []) $ feqL ! (λ len′.
+        split ! $ move ! (1 ∷ []) $ use1 W (some (λ (ws : Unit {0} × (List ℕ × Unit {0})). ‵ (lasts weave.ended (κ, (α ∷ [], tt)) (s, (x α δ l₂, tt)) ws) ⊛ raw (fact 𝓤 (ws .1 .0 ≡ packedOver (now s) zeros)))) (id⊢ 𝓤 _) $ pick ! (λ ws.
+        split ! $ move ! (1 ∷ []) $ heard ! (ws .1 .0 ≡ packedOver (now s) zeros) (λ e. fsplit ! $ move ! (1 ∷ []) $ fsplit ! $ fsplit ! $ move ! (1 ∷ []) $ feqL ! (λ len′.
         -- [the last list; true; true; the tokens and the result; what list owns; true; the lender's part; _5; …]
         move ! (3 ∷ []) $ split ! $ split ! $ move ! (1 ∷ []) $ split ! $ lft-end ! tt $
         keep ! (0 ∷ 9 ∷ 4 ∷ 2 ∷ 3 ∷ 7 ∷ 10 ∷ 11 ∷ 12 ∷ 13 ∷ 14 ∷ 15 ∷ 16 ∷ 17 ∷ 18 ∷ 19 ∷ 20 ∷ []) $
@@ -160,18 +160,18 @@ module _ {M : Type 1} (𝓤 : URA M) (H : Heap 𝓤) (A : Atoms 𝓤) (W : Given
         by ! (exits (ws .1 .0) _ e)))))))))))))))))))
 
 module _ {M : Type 1} (𝓤 : URA M) (H : Heap 𝓤) (A : Atoms 𝓤) (W : Given 𝓤 H A) (mem : Memory → SProp 𝓤) (run : Routine → Fun 𝓤) where
-  walks : (C : Calls 𝓤 H) (Λ : Loops 𝓤 H) → FmC 𝓤 H (W .laws) C → Triple 𝓤 (C #writer·weave) (Weave 𝓤 H A mem run) → Walks 𝓤 H A f.ended stayed (WpFn 𝓤 H C Λ code.function) (f.clauses 𝓤 H A mem run)
+  walks : (C : Calls 𝓤 H) (Λ : Loops 𝓤 H) → FmC 𝓤 H (W .laws) C → Triple 𝓤 (C #writer·pack-all) (Weave 𝓤 H A mem run) → Walks 𝓤 H A f.ended stayed (WpFn 𝓤 H C Λ code.function) (f.clauses 𝓤 H A mem run)
   walks C Λ fm known = walked 𝓤 H A f.ended stayed (f.clauses 𝓤 H A mem run) (WpFn 𝓤 H C Λ code.function) (λ κs. (slice-vals, tt)) (λ κs. (shr-slice-tells (named 0) (κs .0) T.the-row, tt))
       (λ κs qs bounds a g are. via 𝓤 _ (fst∗ 𝓤 _ (emp 𝓤)) (walk 𝓤 H A W mem run (κs .0) (qs .0) (a .0) C Λ fm known (are .0)))
 
-meets : {M : Type 1} (𝓤 : URA M) (H : Heap 𝓤) (A : Atoms 𝓤) (W : Given 𝓤 H A) (mem : Memory → SProp 𝓤) (run : Routine → Fun 𝓤) (𝓣 : Tables 𝓤 H) → Triple 𝓤 (𝓣 .C #writer·weave) (Weave 𝓤 H A mem run)
+meets : {M : Type 1} (𝓤 : URA M) (H : Heap 𝓤) (A : Atoms 𝓤) (W : Given 𝓤 H A) (mem : Memory → SProp 𝓤) (run : Routine → Fun 𝓤) (𝓣 : Tables 𝓤 H) → Triple 𝓤 (𝓣 .C #writer·pack-all) (Weave 𝓤 H A mem run)
     → Meets 𝓤 H A f.signature (WpFn 𝓤 H (𝓣 .C) (𝓣 .Λ) code.function) (f.spec 𝓤 H A mem run)
 meets 𝓤 H A W mem run 𝓣 known = walk-meets 𝓤 H A f.ended stayed W (goes-none-slice 𝓤 H A W 1 (0 ∷ []) tt (plain (λ _. T.the-row)) yes, tt) (f.clauses 𝓤 H A mem run) (WpFn 𝓤 H (𝓣 .C) (𝓣 .Λ) code.function) (WpFn-mono 𝓤 H (W .laws) 𝓣 code.function) (walks 𝓤 H A W mem run (𝓣 .C) (𝓣 .Λ) (fmOf 𝓤 H (W .laws) 𝓣) known)
 
-pub woven-spec : {M : Type 1} → stated.statement M
+pub packed-spec : {M : Type 1} → stated.statement M
 unfolding code.routine tablesOf
-woven-spec 𝓤 H 𝓜 𝓖 𝓡 =
+packed-spec 𝓤 H 𝓜 𝓖 𝓡 =
     entered 𝓤 H (tripleOf 𝓤 H (𝓖 .A) f.signature (f.spec 𝓤 H (𝓖 .A) (𝓜 .mem) (𝓡 .run)))
-    (tables 𝓤 H 𝓜 𝓡 code.env .C) (tables 𝓤 H 𝓜 𝓡 code.env .Λ) #writer·woven code.function (code.unfolded 𝓤 H 𝓜 𝓡)
+    (tables 𝓤 H 𝓜 𝓡 code.env .C) (tables 𝓤 H 𝓜 𝓡 code.env .Λ) #writer·packed code.function (code.unfolded 𝓤 H 𝓜 𝓡)
     (meets 𝓤 H (𝓖 .A) (givenOf 𝓤 H 𝓜 𝓖) (𝓜 .mem) (𝓡 .run) (tablesOf 𝓤 H 𝓜 (tables 𝓤 H 𝓜 𝓡 code.env))
-    (cited 𝓤 H (Weave 𝓤 H (𝓖 .A) (𝓜 .mem) (𝓡 .run)) 𝓜 𝓡 code.env #writer·weave weave-def.routine code.calls-writer·weave (weave-thm.met 𝓤 H 𝓜 𝓖 𝓡)))
+    (cited 𝓤 H (Weave 𝓤 H (𝓖 .A) (𝓜 .mem) (𝓡 .run)) 𝓜 𝓡 code.env #writer·pack-all weave-def.routine code.calls-writer·pack-all (weave-thm.met 𝓤 H 𝓜 𝓖 𝓡)))

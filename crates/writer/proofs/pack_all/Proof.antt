@@ -1,6 +1,6 @@
--- `writer::weave` meets its contract: a walk of its MIR, by hand, with a loop. Each turn reads one struct of the list, calls `key` on it, and stores the key. All that the proof knows of `key` is that it meets its contract.
+-- `writer::pack_all` meets its contract: a walk of its MIR, by hand, with a loop. Each turn reads one struct of the list, calls `pack` on it, and stores the key. All that the proof knows of `pack` is that it meets its contract.
 -- Both slices are opened once, before the loop, and closed once, after it: between the two their elements are rows in memory, a share of the list's and the whole of the keys'.
---     wovenTo i ls ks    ks with the keys of the first i admissions of ls in its first i places
+--     packedTo i ls ks    ks with the first i admissions of ls, packed, in its first i places
 --     Cx i             what is had where i keys are written.        more, ends       a turn that writes one, and the turn that leaves the loop, with the rest of the body
 --     loops            the loop, by `Sound/Loop.antt`'s `loop-rule`: the variant t is the number of keys left to write, and i is m - t
 -- Assumes nothing.
@@ -53,24 +53,24 @@ use denote.Triple.Table.{entered, cited}
 use denote.Triple.Walked.{says, Stays, stay-none-slice, stay-slice, walkOf, goes-none-slice, goes-slice, Walks, ends-at, walked, walk-meets}
 use denote.Triple.Clauses.{ensured, lasts}
 use denote.Exit.{yes}
-use Rattle.writer.specs.List.{keyIn, fitting, wovenOver}
-use Rattle.writer.proofs.Weaving.{none, atOr, wovenTo, woven-length, woven-next, woven-all, fitting-left, fitting-right}
+use Rattle.writer.specs.List.{packedIn, fitting, packedOver}
+use Rattle.writer.proofs.Weaving.{none, atOr, packedTo, packed-length, packed-next, packed-all, fitting-left, fitting-right}
 use Rattle.format.specs.declared.Admission.{Admission}
 use Rattle.format.proofs.Admission as T
 use Rattle.format.proofs.Admission.Laws as T′
-use Rattle.writer.proofs.key as key
-use Rattle.writer.proofs.key.Symbol as key-def
-use Rattle.writer.proofs.key.Symbol.{name as #writer·key}
-use Rattle.writer.proofs.key.Met as key-thm
-use Rattle.writer.proofs.to_weave as to-weave
-use Rattle.writer.proofs.to_weave.Symbol as to-weave-def
-use Rattle.writer.proofs.to_weave.Symbol.{name as #writer·to-weave}
-use Rattle.writer.proofs.to_weave.Met as to-weave-thm
-use Rattle.writer.proofs.weave.Key.{name as #writer·weave}
-use Rattle.writer.proofs.weave as f
-use Rattle.writer.proofs.weave.Statement as stated
-use Rattle.writer.proofs.weave.Code as code
-use Rattle.writer.proofs.weave.Code.Mir as body
+use Rattle.writer.proofs.pack as key
+use Rattle.writer.proofs.pack.Symbol as key-def
+use Rattle.writer.proofs.pack.Symbol.{name as #writer·pack}
+use Rattle.writer.proofs.pack.Met as key-thm
+use Rattle.writer.proofs.to_pack as to-pack
+use Rattle.writer.proofs.to_pack.Symbol as to-pack-def
+use Rattle.writer.proofs.to_pack.Symbol.{name as #writer·to-pack}
+use Rattle.writer.proofs.to_pack.Met as to-pack-thm
+use Rattle.writer.proofs.pack_all.Key.{name as #writer·pack-all}
+use Rattle.writer.proofs.pack_all as f
+use Rattle.writer.proofs.pack_all.Statement as stated
+use Rattle.writer.proofs.pack_all.Code as code
+use Rattle.writer.proofs.pack_all.Code.Mir as body
 
 -- ---- truth values and numbers
 holds : (t : Bool) → Holds t → t ≡ true
@@ -116,8 +116,8 @@ module _ {M : Type 1} (𝓤 : URA M) (H : Heap 𝓤) (A : Atoms 𝓤) (mem : Mem
   abbrev Key : Contract 𝓤
   Key = tripleOf 𝓤 H A key.signature (key.spec 𝓤 H A mem run)
 
-  abbrev ToWeave : Contract 𝓤
-  ToWeave = tripleOf 𝓤 H A to-weave.signature (to-weave.spec 𝓤 H A mem run)
+  abbrev ToPack : Contract 𝓤
+  ToPack = tripleOf 𝓤 H A to-pack.signature (to-pack.spec 𝓤 H A mem run)
 
 module _ {M : Type 1} (𝓤 : URA M) (H : Heap 𝓤) (A : Atoms 𝓤) (W : Given 𝓤 H A) (mem : Memory → SProp 𝓤) (run : Routine → Fun 𝓤) (κ κ′ : Lft) (q p : Share) (b o : ℕ) (γ : GName) (ls : List Admission) (c d : ℕ) (δ : GName) (ks : List ℕ) where
   abbrev n : ℕ
@@ -140,7 +140,7 @@ module _ {M : Type 1} (𝓤 : URA M) (H : Heap 𝓤) (A : Atoms 𝓤) (W : Given
   Lent s = arr-parts (shares T.the-row) n .part s ls b o
 
   -- at exit keys holds zs
-  exits : (zs : List ℕ) → length zs ≡ length ks → zs ≡ wovenOver ls ks → Room u32 (length ks) → ent 𝓤 (⋆ 𝓤 H A (‵ (fobs δ (codedHoleys u32 .code (heres u32 zs))) ∷ ‵ (fbor κ′ (Held u32 (length zs) c d δ)) ∷ ‵ (flft κ′ p) ∷ ‵ (flft κ q)
+  exits : (zs : List ℕ) → length zs ≡ length ks → zs ≡ packedOver ls ks → Room u32 (length ks) → ent 𝓤 (⋆ 𝓤 H A (‵ (fobs δ (codedHoleys u32 .code (heres u32 zs))) ∷ ‵ (fbor κ′ (Held u32 (length zs) c d δ)) ∷ ‵ (flft κ′ p) ∷ ‵ (flft κ q)
       ∷ ‵ (fshr-bor κ Lent) ∷ ‵ (fres γ (codedHoleys T.the-row .code (heres T.the-row ls))) ∷ ‵ (at-slice T.the-row (x .0) (at .0)) ∷ [])) (Post vunit)
   exits zs len e gk =
       qed W (‵ (fobs δ (codedHoleys u32 .code (heres u32 zs))) ∷ ‵ (fbor κ′ (Held u32 (length zs) c d δ)) ∷ ‵ (flft κ′ p) ∷ ‵ (flft κ q)
@@ -150,28 +150,28 @@ module _ {M : Type 1} (𝓤 : URA M) (H : Heap 𝓤) (A : Atoms 𝓤) (W : Given
       fjoin ! $ pureI ! (at-slice u32 (record { ptr = (c, d); name = δ; now = zs }) (at .1 .0)) (tt, (tt, tt)) (ap (λ (m : ℕ). sliceVal (c, d) m ∷ []) (sym len), subst (Room u32) (sym len) gk) $ fjoin ! $ nothing ! $ move ! (1 ∷ 0 ∷ []) $ fjoin ! $
       move ! (2 ∷ 1 ∷ []) $ fjoin ! $ move ! (2 ∷ 0 ∷ []) $ fjoin ! $ fjoin ! $ frame ! $ feqI ! (List Val) (vunit ∷ []) (vunit ∷ []) refl $ done !
 
-  -- the call of `key`
+  -- the call of `pack`
   abbrev to-key : Admission → Key 𝓤 H A mem run .Ghost
   to-key a = ((tt, tt, tt, (a, tt), (T′.lowered a ∷ [], tt)), tt)
 
   goes-key : (a : Admission) → ent 𝓤 (sem 𝓤 H A (T.the-row .own a (T′.lowered a ∷ []))) (Key 𝓤 H A mem run .pre (to-key a))
   goes-key a = qed W (‵ (T.the-row .own a (T′.lowered a ∷ [])) ∷ []) ∵ nothing ! $ move ! (1 ∷ 0 ∷ []) $ join ! $ nothing ! $ join ! $ frame ! $ done !
 
-  key-said : (a : Admission) (r : ℕ) → ent 𝓤 (ensured 𝓤 H A key.ended (key.clauses 𝓤 H A mem run) tt (a, tt) tt r) (fact 𝓤 (r ≡ keyIn a))
-  key-said a r = exE 𝓤 _ (λ ws. snd∗ 𝓤 (sem 𝓤 H A (lasts key.ended tt (a, tt) ws)) (fact 𝓤 (r ≡ keyIn a)))
+  key-said : (a : Admission) (r : ℕ) → ent 𝓤 (ensured 𝓤 H A key.ended (key.clauses 𝓤 H A mem run) tt (a, tt) tt r) (fact 𝓤 (r ≡ packedIn a))
+  key-said a r = exE 𝓤 _ (λ ws. snd∗ 𝓤 (sem 𝓤 H A (lasts key.ended tt (a, tt) ws)) (fact 𝓤 (r ≡ packedIn a)))
 
-  -- the call of `to-weave`
-  abbrev asks-to-weave : ToWeave 𝓤 H A mem run .Ghost
-  asks-to-weave = ((tt, tt, tt, (n, (length ks, tt)), (vint w64 n ∷ [], (vint w64 (length ks) ∷ [], tt))), tt)
+  -- the call of `to-pack`
+  abbrev asks-to-pack : ToPack 𝓤 H A mem run .Ghost
+  asks-to-pack = ((tt, tt, tt, (n, (length ks, tt)), (vint w64 n ∷ [], (vint w64 (length ks) ∷ [], tt))), tt)
 
-  goes-to-weave : n < 2 ^ 64 → length ks < 2 ^ 64 → ent 𝓤 (sem 𝓤 H A ftrue) (ToWeave 𝓤 H A mem run .pre asks-to-weave)
-  goes-to-weave gn gk = qed W (‵ ftrue ∷ []) ∵
+  goes-to-pack : n < 2 ^ 64 → length ks < 2 ^ 64 → ent 𝓤 (sem 𝓤 H A ftrue) (ToPack 𝓤 H A mem run .pre asks-to-pack)
+  goes-to-pack gn gk = qed W (‵ ftrue ∷ []) ∵
       nothing ! $ owned ! usize (Is usize) (uint-makes 𝓤 H A W w64) (length ks) _ (refl, gk) $ fjoin ! $ owned ! usize (Is usize) (uint-makes 𝓤 H A W w64) n _ (refl, gn) $ fjoin ! $ move ! (1 ∷ 0 ∷ []) $ join ! $ frame ! $ done !
 
-  to-weave-said : (r : ℕ) → ent 𝓤 (ensured 𝓤 H A to-weave.ended (to-weave.clauses 𝓤 H A mem run) tt (n, (length ks, tt)) tt r) (fact 𝓤 (r ≡ fitting n (length ks)))
-  to-weave-said r = exE 𝓤 _ (λ ws. snd∗ 𝓤 (sem 𝓤 H A (lasts to-weave.ended tt (n, (length ks, tt)) ws)) (fact 𝓤 (r ≡ fitting n (length ks))))
+  to-pack-said : (r : ℕ) → ent 𝓤 (ensured 𝓤 H A to-pack.ended (to-pack.clauses 𝓤 H A mem run) tt (n, (length ks, tt)) tt r) (fact 𝓤 (r ≡ fitting n (length ks)))
+  to-pack-said r = exE 𝓤 _ (λ ws. snd∗ 𝓤 (sem 𝓤 H A (lasts to-pack.ended tt (n, (length ks, tt)) ws)) (fact 𝓤 (r ≡ fitting n (length ks))))
 
-  module _ (𝓣 : Tables 𝓤 H) (fm : FmC 𝓤 H (W .laws) (𝓣 .C)) (known : Triple 𝓤 (𝓣 .C #writer·key) (Key 𝓤 H A mem run)) (known-to-weave : Triple 𝓤 (𝓣 .C #writer·to-weave) (ToWeave 𝓤 H A mem run)) (gl : Room T.the-row n) (gk : Room u32 (length ks)) where
+  module _ (𝓣 : Tables 𝓤 H) (fm : FmC 𝓤 H (W .laws) (𝓣 .C)) (known : Triple 𝓤 (𝓣 .C #writer·pack) (Key 𝓤 H A mem run)) (known-to-pack : Triple 𝓤 (𝓣 .C #writer·to-pack) (ToPack 𝓤 H A mem run)) (gl : Room T.the-row n) (gk : Room u32 (length ks)) where
     abbrev C : Calls 𝓤 H
     C = 𝓣 .C
 
@@ -194,7 +194,7 @@ module _ {M : Type 1} (𝓤 : URA M) (H : Heap 𝓤) (A : Atoms 𝓤) (W : Given
 
       -- the list's elements; the keys; i and m; the temporaries, which are free; the parameters; two more temporaries and the result's room; what closes the list's borrow and the keys'; and that each local dies
       abbrev Cx : ℕ → List (Item 𝓤)
-      Cx i = ‵ (row T.the-row q′ ls b o) ∷ ‵ (row u32 fullShare (wovenTo i ls ks) c d) ∷ ‵ (fat fullShare word l₄ 0 (vint w64 i)) ∷ ‵ (fat fullShare word l₃ 0 (vint w64 m))
+      Cx i = ‵ (row T.the-row q′ ls b o) ∷ ‵ (row u32 fullShare (packedTo i ls ks) c d) ∷ ‵ (fat fullShare word l₄ 0 (vint w64 i)) ∷ ‵ (fat fullShare word l₃ 0 (vint w64 m))
           ∷ ‵ (froom tyBool l₇ 0) ∷ ‵ (froom (tyInt w32) l₈ 0) ∷ ‵ (froom word l₉ 0) ∷ ‵ (froom tyPtr l₁₀ 0) ∷ ‵ (froom T′.mir l₁₁ 0) ∷ ‵ (froom word l₁₂ 0) ∷ ‵ (froom tyPtr l₁₃ 0)
           ∷ ‵ (fat fullShare listTy l₁ 0 (sliceVal (b, o) n)) ∷ ‵ (fat fullShare keysTy l₂ 0 (sliceVal (c, d) (length ks))) ∷ ‵ (froom word l₅ 0) ∷ ‵ (froom word l₆ 0) ∷ ‵ (froom tyUnit l₀ 0)
           ∷ ‵ (fobor κ q (Lent q′)) ∷ ‵ (fshr-bor κ Lent) ∷ ‵ (fres γ (codedHoleys T.the-row .code (heres T.the-row ls))) ∷ ‵ (at-slice T.the-row (x .0) (at .0))
@@ -225,7 +225,7 @@ module _ {M : Type 1} (𝓤 : URA M) (H : Heap 𝓤) (A : Atoms 𝓤) (W : Given
           owned ! T.the-row (Is T.the-row) (LL.makes T.the-type T′.the-plain 𝓤 H A) (atOr ls i) (T′.lowered (atOr ls i) ∷ []) g $ use1 W (raw (Key 𝓤 H A mem run .pre (to-key (atOr ls i)))) (goes-key (atOr ls i)) $
           calls-at ! fm (Key 𝓤 H A mem run) known (to-key (atOr ls i)) (and-then ! (load ! (from ! (stop !)) (look ! 9 refl)) (no-more !)) (λ u.
           use1 W (later (some (λ (r : ℕ). (‵ ftrue ⊛ ‵ (u32 .own r (u ∷ []))) ⊛ raw (ensured 𝓤 H A key.ended (key.clauses 𝓤 H A mem run) tt (atOr ls i, tt) tt r)))) (id⊢ 𝓤 _) $ await ! tt $ pick ! (λ r.
-          split ! $ move ! (1 ∷ []) $ use1 W (raw (fact 𝓤 (r ≡ keyIn (atOr ls i)))) (key-said (atOr ls i) r) $ heard ! (r ≡ keyIn (atOr ls i)) (λ e. split ! $ drop ! $
+          split ! $ move ! (1 ∷ []) $ use1 W (raw (fact 𝓤 (r ≡ packedIn (atOr ls i)))) (key-said (atOr ls i) r) $ heard ! (r ≡ packedIn (atOr ls i)) (λ e. split ! $ drop ! $
           facts ! u32 (Is u32) (shows 𝓤 H A u32) r (u ∷ []) (λ is.
           land ! (from ! (stop !)) (init ! 5 refl (uint-lawful 𝓤 H A W w32 .typed r _ is .0)) $
           rewrite ! 5 (λ (v : Val). ‵ (fat fullShare (tyInt w32) l₈ 0 v)) (ap only (is .0)) refl $
@@ -233,16 +233,16 @@ module _ {M : Type 1} (𝓤 : URA M) (H : Heap 𝓤) (A : Atoms 𝓤) (W : Given
           assigns ! (bin ! (load ! (from ! (stop !)) (look ! 2 refl)) (lit ! tt) (record { fits = fits i m n l lm (gl .1) })) (from ! (stop !)) (init ! 9 refl (tt, record { fits = fits i m n l lm (gl .1) })) $
           assigns ! (bin ! (load ! (from ! (fld ! refl (stop !))) (look-in ! 12 (sub ! 0 refl (whole !)))) (load ! (from ! (stop !)) (look ! 9 refl)) tt) (from ! (stop !)) (init ! 10 refl (tt, tt)) $
           rewrite ! 10 (λ (k : ℕ). ‵ (fat fullShare tyPtr l₁₃ 0 (vptr c k))) (sym (place-is 4 d i)) refl $
-          move ! (1 ∷ []) $ elem-out ! u32 (Is u32) (shows 𝓤 H A u32) (uint-vals w32) (uint-tells w32) fullShare (wovenTo i ls ks) i 0 c d small (λ _.
+          move ! (1 ∷ []) $ elem-out ! u32 (Is u32) (shows 𝓤 H A u32) (uint-vals w32) (uint-tells w32) fullShare (packedTo i ls ks) i 0 c d small (λ _.
           assigns ! (of-opd ! (load ! (from ! (stop !)) (look ! 7 refl))) (from ! (hop ! (look ! 12 refl) (stop !))) (store ! 0 refl (tt, record { fits = is .1 })) $
-          move ! (1 ∷ []) $ drop ! $ owned ! u32 (Is u32) (uint-makes 𝓤 H A W w32) r (vint w32 r ∷ []) (refl, is .1) $ move ! (1 ∷ 0 ∷ []) $ elem-put ! u32 fullShare (wovenTo i ls ks) i r (vint w32 r ∷ []) c d small $
-          rewrite ! 0 (λ (zs : List ℕ). ‵ (row u32 fullShare zs c d)) (ap (set (wovenTo i ls ks) i) e ∙ woven-next i ls ks (within i m n l lm) (within i m (length ks) l km)) refl $ move ! (1 ∷ []) $
+          move ! (1 ∷ []) $ drop ! $ owned ! u32 (Is u32) (uint-makes 𝓤 H A W w32) r (vint w32 r ∷ []) (refl, is .1) $ move ! (1 ∷ 0 ∷ []) $ elem-put ! u32 fullShare (packedTo i ls ks) i r (vint w32 r ∷ []) c d small $
+          rewrite ! 0 (λ (zs : List ℕ). ‵ (row u32 fullShare zs c d)) (ap (set (packedTo i ls ks) i) e ∙ packed-next i ls ks (within i m n l lm) (within i m (length ks) l km)) refl $ move ! (1 ∷ []) $
           assigns-last ! (bin ! (load ! (from ! (stop !)) (look ! 2 refl)) (lit ! tt) (record { fits = next-fits i m l gm })) (from ! (stop !)) (store ! 2 refl (tt, record { fits = next-fits i m l gm })) $
           rewrite ! 2 (λ (j : ℕ). ‵ (fat fullShare word l₄ 0 (vint w64 j))) (one-more i) refl $
           forget ! 4 refl $ forget ! 5 refl $ forget ! 6 refl $ forget ! 7 refl $ forget ! 8 refl $ forget ! 9 refl $ forget ! 10 refl $ by ! k))))))
         where
-          small : i < length (wovenTo i ls ks)
-          small = subst (λ (j : ℕ). i < j) (sym (woven-length i ls ks)) (within i m (length ks) l km)
+          small : i < length (packedTo i ls ks)
+          small = subst (λ (j : ℕ). i < j) (sym (packed-length i ls ks)) (within i m (length ks) l km)
 
       -- the turn that leaves the loop, and the rest of the body: both borrows are closed
       ends : (X : SProp 𝓤) → ent 𝓤 (⋆ 𝓤 H A (Cx m)) (Wp 𝓤 H C Λ En body.turn-1 (afterTurn 𝓤 H X Left))
@@ -254,11 +254,11 @@ module _ {M : Type 1} (𝓤 : URA M) (H : Heap 𝓤) (A : Atoms 𝓤) (W : Given
           leaves-loop ! (load ! (from ! (stop !)) (look ! 4 refl)) $ exec ! C Λ En body.t-6 (atRet En Post) $
           assigns ! (of-opd ! (unit-lit !)) (from ! (stop !)) (init ! 15 refl (tt, tt)) $
           move ! (0 ∷ 16 ∷ []) $ shuts-slice ! tt T.the-row q′ ls b o $
-          move ! (1 ∷ 19 ∷ 20 ∷ 21 ∷ []) $ closes-slice ! tt u32 ks (wovenTo m ls ks) (woven-length m ls ks) c d $
+          move ! (1 ∷ 19 ∷ 20 ∷ 21 ∷ []) $ closes-slice ! tt u32 ks (packedTo m ls ks) (packed-length m ls ks) c d $
           -- [obs; the borrow; keys' token; list's token; _4; _3; _7; …; _13; _1; _2; _5; _6; _0; the fractured borrow; res; list's facts; and that each local dies]
           returns ! (look ! 17 refl) $ forget ! 4 refl $ forget ! 5 refl $ forget ! 6 refl $ forget ! 13 refl $ forget ! 14 refl $ forget ! 17 refl $
           move ! (17 ∷ 21 ∷ []) $ free1 ! $ move ! (13 ∷ 20 ∷ []) $ free1 ! $ move ! (13 ∷ 19 ∷ []) $ free1 ! $ move ! (5 ∷ 18 ∷ []) $ free1 ! $ move ! (4 ∷ 17 ∷ []) $ free1 ! $ move ! (11 ∷ 16 ∷ []) $ free1 ! $ move ! (11 ∷ 15 ∷ []) $ free1 ! $ move ! (4 ∷ 14 ∷ []) $ free1 ! $ move ! (4 ∷ 13 ∷ []) $ free1 ! $ move ! (4 ∷ 12 ∷ []) $ free1 ! $ move ! (4 ∷ 11 ∷ []) $ free1 ! $ move ! (4 ∷ 10 ∷ []) $ free1 ! $ move ! (4 ∷ 9 ∷ []) $ free1 ! $ move ! (4 ∷ 8 ∷ []) $ free1 ! $ free0 ! $
-          by ! (exits (wovenTo m ls ks) (woven-length m ls ks) (ap (λ (j : ℕ). wovenTo j ls ks) e-m ∙ woven-all (fitting n (length ks)) ls ks) gk)
+          by ! (exits (packedTo m ls ks) (packed-length m ls ks) (ap (λ (j : ℕ). packedTo j ls ks) e-m ∙ packed-all (fitting n (length ks)) ls ks) gk)
 
       -- a turn where t keys are left to write
       abbrev Inv : ℕ → SProp 𝓤
@@ -284,13 +284,13 @@ module _ {M : Type 1} (𝓤 : URA M) (H : Heap 𝓤) (A : Atoms 𝓤) (W : Given
         qed W ((‵ (flft κ q) ⊛ (‵ (flft κ′ p) ⊛ ‵ ftrue)) ∷ ‵ (owns (ShrSlice (named 0) κ T.the-row ∷ MutSlice (named 1) κ′ u32 ∷ []) x at) ∷ []) ∵ enter ! C Λ code.function (sliceVal (b, o) n ∷ sliceVal (c, d) (length ks) ∷ []) _ $
         alloc1 ! (λ l₀. alloc1 ! (λ l₁. alloc1 ! (λ l₂. alloc1 ! (λ l₃. alloc1 ! (λ l₄. alloc1 ! (λ l₅. alloc1 ! (λ l₆. alloc1 ! (λ l₇. alloc1 ! (λ l₈. alloc1 ! (λ l₉. alloc1 ! (λ l₁₀. alloc1 ! (λ l₁₁. alloc1 ! (λ l₁₂. alloc1 ! (λ l₁₃. alloc0 ! $ params1 ! $
         pass1 ! (init ! 24 refl (tt, (tt, (record { fits = gl .0 }, tt)))) $ pass1 ! (init ! 22 refl (tt, (tt, (record { fits = gk .0 }, tt)))) $ pass0 ! $
-        -- the two counts, and the to-weave
+        -- the two counts, and the to-pack
         assigns ! (of-opd ! (load ! (from ! (fld ! refl (stop !))) (look-in ! 24 (sub ! 1 refl (whole !))))) (from ! (stop !)) (init ! 16 refl (tt, record { fits = gl .0 })) $
         assigns ! (of-opd ! (load ! (from ! (fld ! refl (stop !))) (look-in ! 22 (sub ! 1 refl (whole !))))) (from ! (stop !)) (init ! 14 refl (tt, record { fits = gk .0 })) $
-        nothing ! $ use1 W (raw (ToWeave 𝓤 H A mem run .pre asks-to-weave)) (goes-to-weave (gl .0) (gk .0)) $
-        calls-at ! fm (ToWeave 𝓤 H A mem run) known-to-weave asks-to-weave (and-then ! (load ! (from ! (stop !)) (look ! 17 refl)) (and-then ! (load ! (from ! (stop !)) (look ! 15 refl)) (no-more !))) (λ u.
-        use1 W (later (some (λ (r : ℕ). (‵ ftrue ⊛ ‵ (usize .own r (u ∷ []))) ⊛ raw (ensured 𝓤 H A to-weave.ended (to-weave.clauses 𝓤 H A mem run) tt (n, (length ks, tt)) tt r)))) (id⊢ 𝓤 _) $ await ! tt $ pick ! (λ m.
-        split ! $ move ! (1 ∷ []) $ use1 W (raw (fact 𝓤 (m ≡ fitting n (length ks)))) (to-weave-said m) $ heard ! (m ≡ fitting n (length ks)) (λ e. split ! $ drop ! $
+        nothing ! $ use1 W (raw (ToPack 𝓤 H A mem run .pre asks-to-pack)) (goes-to-pack (gl .0) (gk .0)) $
+        calls-at ! fm (ToPack 𝓤 H A mem run) known-to-pack asks-to-pack (and-then ! (load ! (from ! (stop !)) (look ! 17 refl)) (and-then ! (load ! (from ! (stop !)) (look ! 15 refl)) (no-more !))) (λ u.
+        use1 W (later (some (λ (r : ℕ). (‵ ftrue ⊛ ‵ (usize .own r (u ∷ []))) ⊛ raw (ensured 𝓤 H A to-pack.ended (to-pack.clauses 𝓤 H A mem run) tt (n, (length ks, tt)) tt r)))) (id⊢ 𝓤 _) $ await ! tt $ pick ! (λ m.
+        split ! $ move ! (1 ∷ []) $ use1 W (raw (fact 𝓤 (m ≡ fitting n (length ks)))) (to-pack-said m) $ heard ! (m ≡ fitting n (length ks)) (λ e. split ! $ drop ! $
         facts ! usize (Is usize) (shows 𝓤 H A usize) m (u ∷ []) (λ is.
         land ! (from ! (stop !)) (init ! 20 refl (uint-lawful 𝓤 H A W w64 .typed m _ is .0)) $
         rewrite ! 20 (λ (v : Val). ‵ (fat fullShare word l₃ 0 v)) (ap only (is .0)) refl $
@@ -304,21 +304,21 @@ module _ {M : Type 1} (𝓤 : URA M) (H : Heap 𝓤) (A : Atoms 𝓤) (W : Given
         by ! (loops m e (is .1) (subst (λ (j : ℕ). j ≤ n) (sym e) (fitting-left n (length ks))) (subst (λ (j : ℕ). j ≤ length ks) (sym e) (fitting-right n (length ks))) q′ l₀ l₁ l₂ l₃ l₄ l₅ l₆ l₇ l₈ l₉ l₁₀ l₁₁ l₁₂ l₁₃))))))))))))))))))))
 
 module _ {M : Type 1} (𝓤 : URA M) (H : Heap 𝓤) (A : Atoms 𝓤) (W : Given 𝓤 H A) (mem : Memory → SProp 𝓤) (run : Routine → Fun 𝓤) where
-  walks : (𝓣 : Tables 𝓤 H) → Triple 𝓤 (𝓣 .C #writer·key) (Key 𝓤 H A mem run) → Triple 𝓤 (𝓣 .C #writer·to-weave) (ToWeave 𝓤 H A mem run) → Walks 𝓤 H A f.ended stayed (WpFn 𝓤 H (𝓣 .C) (𝓣 .Λ) code.function) (f.clauses 𝓤 H A mem run)
+  walks : (𝓣 : Tables 𝓤 H) → Triple 𝓤 (𝓣 .C #writer·pack) (Key 𝓤 H A mem run) → Triple 𝓤 (𝓣 .C #writer·to-pack) (ToPack 𝓤 H A mem run) → Walks 𝓤 H A f.ended stayed (WpFn 𝓤 H (𝓣 .C) (𝓣 .Λ) code.function) (f.clauses 𝓤 H A mem run)
   walks 𝓣 k₁ k₂ = walked 𝓤 H A f.ended stayed (f.clauses 𝓤 H A mem run) (WpFn 𝓤 H (𝓣 .C) (𝓣 .Λ) code.function) (λ κs. (slice-vals, (slice-vals, tt))) (λ κs. (shr-slice-tells (named 0) (κs .0) T.the-row, (mut-slice-tells (named 1) (κs .1 .0) u32, tt)))
       (λ κs qs bounds a g are. via 𝓤 _ (fst∗ 𝓤 _ (emp 𝓤))
       (walk 𝓤 H A W mem run (κs .0) (κs .1 .0) (qs .0) (qs .1 .0) (a .0 .ptr .0) (a .0 .ptr .1) (a .0 .name) (a .0 .now) (a .1 .0 .ptr .0) (a .1 .0 .ptr .1) (a .1 .0 .name) (a .1 .0 .now) 𝓣 (fmOf 𝓤 H (W .laws) 𝓣) k₁ k₂ (are .0 .0 .1) (are .1 .0 .0 .1)))
 
-meets : {M : Type 1} (𝓤 : URA M) (H : Heap 𝓤) (A : Atoms 𝓤) (W : Given 𝓤 H A) (mem : Memory → SProp 𝓤) (run : Routine → Fun 𝓤) (𝓣 : Tables 𝓤 H) → Triple 𝓤 (𝓣 .C #writer·key) (Key 𝓤 H A mem run) → Triple 𝓤 (𝓣 .C #writer·to-weave) (ToWeave 𝓤 H A mem run)
+meets : {M : Type 1} (𝓤 : URA M) (H : Heap 𝓤) (A : Atoms 𝓤) (W : Given 𝓤 H A) (mem : Memory → SProp 𝓤) (run : Routine → Fun 𝓤) (𝓣 : Tables 𝓤 H) → Triple 𝓤 (𝓣 .C #writer·pack) (Key 𝓤 H A mem run) → Triple 𝓤 (𝓣 .C #writer·to-pack) (ToPack 𝓤 H A mem run)
     → Meets 𝓤 H A f.signature (WpFn 𝓤 H (𝓣 .C) (𝓣 .Λ) code.function) (f.spec 𝓤 H A mem run)
 meets 𝓤 H A W mem run 𝓣 k₁ k₂ = walk-meets 𝓤 H A f.ended stayed W (goes-none-slice 𝓤 H A W 2 (0 ∷ []) tt (plain (λ _. T.the-row)) yes, (goes-slice 𝓤 H A W 2 1 tt (plain (λ _. u32)), tt)) (f.clauses 𝓤 H A mem run) (WpFn 𝓤 H (𝓣 .C) (𝓣 .Λ) code.function) (WpFn-mono 𝓤 H (W .laws) 𝓣 code.function)
     (walks 𝓤 H A W mem run 𝓣 k₁ k₂)
 
-pub weave-spec : {M : Type 1} → stated.statement M
+pub pack-all-spec : {M : Type 1} → stated.statement M
 unfolding code.routine tablesOf
-weave-spec 𝓤 H 𝓜 𝓖 𝓡 =
+pack-all-spec 𝓤 H 𝓜 𝓖 𝓡 =
     entered 𝓤 H (tripleOf 𝓤 H (𝓖 .A) f.signature (f.spec 𝓤 H (𝓖 .A) (𝓜 .mem) (𝓡 .run)))
-    (tables 𝓤 H 𝓜 𝓡 code.env .C) (tables 𝓤 H 𝓜 𝓡 code.env .Λ) #writer·weave code.function (code.unfolded 𝓤 H 𝓜 𝓡)
+    (tables 𝓤 H 𝓜 𝓡 code.env .C) (tables 𝓤 H 𝓜 𝓡 code.env .Λ) #writer·pack-all code.function (code.unfolded 𝓤 H 𝓜 𝓡)
     (meets 𝓤 H (𝓖 .A) (givenOf 𝓤 H 𝓜 𝓖) (𝓜 .mem) (𝓡 .run) (tablesOf 𝓤 H 𝓜 (tables 𝓤 H 𝓜 𝓡 code.env))
-    (cited 𝓤 H (Key 𝓤 H (𝓖 .A) (𝓜 .mem) (𝓡 .run)) 𝓜 𝓡 code.env #writer·key key-def.routine code.calls-writer·key (key-thm.met 𝓤 H 𝓜 𝓖 𝓡))
-    (cited 𝓤 H (ToWeave 𝓤 H (𝓖 .A) (𝓜 .mem) (𝓡 .run)) 𝓜 𝓡 code.env #writer·to-weave to-weave-def.routine code.calls-writer·to-weave (to-weave-thm.met 𝓤 H 𝓜 𝓖 𝓡)))
+    (cited 𝓤 H (Key 𝓤 H (𝓖 .A) (𝓜 .mem) (𝓡 .run)) 𝓜 𝓡 code.env #writer·pack key-def.routine code.calls-writer·pack (key-thm.met 𝓤 H 𝓜 𝓖 𝓡))
+    (cited 𝓤 H (ToPack 𝓤 H (𝓖 .A) (𝓜 .mem) (𝓡 .run)) 𝓜 𝓡 code.env #writer·to-pack to-pack-def.routine code.calls-writer·to-pack (to-pack-thm.met 𝓤 H 𝓜 𝓖 𝓡)))

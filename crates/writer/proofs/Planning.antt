@@ -1,0 +1,155 @@
+-- The first pass over the bands, from the last to the first: the plan.
+-- Assumes nothing.
+use mathlib.Core.Path.{_≡_, refl, sym, ap, ap₂, _∙_}
+use mathlib.Core.List.{List, [], _∷_, _++_, append-assoc, append-nil, map, flatMap}
+use Prim.Native.Nat.{ℕ, zero, suc, _+_, _*_, _-_, _≤_, _<_}
+use native.Mathlib.Omega.{arith}
+use lib.ListN.{length, take, drop, set, replicate, length-append, length-drop}
+use lib.Seq.{take-all, take-append-le, length-take-le}
+use Rattle.format.specs.Seq.{total, numbersFrom}
+use Rattle.format.specs.Trie.{parents, levelsOver}
+use Rattle.format.specs.Image.{bands}
+use Rattle.format.specs.Writer.{bandsOf, pagesOf, rootsIn}
+use Rattle.format.proofs.Members.{of-ascending}
+use Rattle.format.proofs.RunHeads.{heads}
+use Rattle.format.proofs.Runs.{bandOver, bands-of-keys}
+use Rattle.writer.specs.declared.run.BandCounts.{BandCounts}
+use Rattle.writer.specs.Run.{Prefixes, BandCounted, bandAbove, rootsAbove}
+use Rattle.writer.specs.Image.{countsOf, pagesIn, Planned}
+use Rattle.writer.proofs.Ascending.{to-ascending}
+use Rattle.writer.proofs.Runs.{rest-run}
+use Rattle.writer.proofs.Bands.{roots-is, heads-few}
+use Rattle.writer.proofs.Pages.{heads-listed}
+
+-- ---- the bands above prefixes of 4 b bits
+
+abbrev pub bandsUp : ℕ → List ℕ → List (List (List ℕ))
+bandsUp zero q = []
+bandsUp (suc b) q = bandsUp b (rootsAbove q) ++ bandAbove q ∷ []
+
+pub bands-up : (keys : List ℕ) → bandsOf keys ≡ bandsUp 8 keys
+unfolding bands numbersFrom bandOver heads bandAbove rootsAbove levelsOver
+bands-up keys = bands-of-keys keys
+
+-- the prefixes of the roots are such prefixes again
+pub roots-prefixes : (q : List ℕ) → Prefixes q → Prefixes (rootsAbove q)
+roots-prefixes [] p = unfold rootsAbove parents in p
+roots-prefixes (x ∷ q) p =
+    let l = heads-listed 4 _ _ (x ∷ q) (rest-run (x ∷ q) 0 (of-ascending (x ∷ q) (p .ordered)) (omega arith)) in
+    rw (roots-is (x ∷ q)) (record { few = omega (arith, heads-few 4 (x ∷ q), p .few); ordered = to-ascending (heads 4 (x ∷ q)) (l .asc) })
+
+-- ---- the first pass
+
+abbrev pub countsIn : List (List ℕ) → List ℕ
+countsIn band = length (pagesOf band) ∷ rootsIn band ∷ []
+
+abbrev pub pageCount : List (List ℕ) → ℕ
+pageCount band = length (pagesOf band)
+
+-- the bands above the first n of keys, b of them, are left
+pub record Planning (keys₀ keys counts : List ℕ) (pages n b : ℕ) : Type 0 where
+  pub listed : Prefixes (take n keys)
+  pub within : n ≤ length keys
+  pub same : length keys ≡ length keys₀
+  pub done : List (List (List ℕ))
+  pub bands-are : bandsOf keys₀ ≡ bandsUp b (take n keys) ++ done
+  pub counts-are : counts ≡ replicate (2 * b) 0 ++ flatMap countsIn done
+  pub pages-are : pages ≡ total (map pageCount done)
+  pub pages-few : pages + 4096 * b ≤ 32768
+
+pub planning-start : (keys : List ℕ) → Prefixes keys → Planning keys keys (replicate 16 0) 0 (length keys) 8
+unfolding flatMap total
+planning-start keys p =
+    let all : take (length keys) keys ≡ keys = take-all (length keys) keys (omega arith) in
+    record {
+      listed = rw all p;
+      within = omega arith;
+      same = refl;
+      done = [];
+      bands-are = bands-up keys ∙ ap (bandsUp 8) (sym all) ∙ sym (append-nil (bandsUp 8 (take (length keys) keys)));
+      counts-are = refl;
+      pages-are = refl;
+      pages-few = omega arith;
+    }
+
+-- two counts in place of two zeros
+counts-stored : (b p r : ℕ) (l : List ℕ) → set (set (replicate (2 * suc b) 0 ++ l) (2 * b) p) (2 * b + 1) r ≡ replicate (2 * b) 0 ++ p ∷ r ∷ l
+counts-stored b p r l =
+    let e : 2 * suc b ≡ suc (suc (2 * b)) = omega arith in
+    ap (λ (n : ℕ). set (set (replicate n 0 ++ l) (2 * b) p) (2 * b + 1) r) e ∙ go (2 * b) (2 * b + 1) (omega arith)
+  where
+    go : (n m : ℕ) → m ≡ suc n → set (set (replicate (suc (suc n)) 0 ++ l) n p) m r ≡ replicate n 0 ++ p ∷ r ∷ l
+    go zero zero e = absurd (omega arith)
+    go zero (suc zero) e = refl
+    go zero (suc (suc m)) e = absurd (omega arith)
+    go (suc n) zero e = absurd (omega arith)
+    go (suc n) (suc m) e = ap (0 ∷_) (go n m (omega arith))
+
+module _ (keys : List ℕ) (n roots : ℕ) (after : List ℕ) (within : n ≤ length keys) (same : length after ≡ length (take (n - 0) keys)) (few : roots ≤ n) (lifted : take roots after ≡ rootsAbove (take (n - 0) keys)) where
+  part-length : length after ≡ n
+  part-length = let z : n - 0 ≡ n = omega arith in same ∙ ap (λ (k : ℕ). length (take k keys)) z ∙ length-take-le n keys within
+
+  -- the prefixes of the roots stand first
+  pub first-ones : take roots (after ++ drop (n - 0) keys) ≡ rootsAbove (take n keys)
+  first-ones =
+      let z : n - 0 ≡ n = omega arith in
+      take-append-le roots after (drop (n - 0) keys) (omega (arith, part-length)) ∙ lifted ∙ ap (λ (k : ℕ). rootsAbove (take k keys)) z
+
+  pub back-length : length (after ++ drop (n - 0) keys) ≡ length keys
+  back-length = omega (arith, length-append after (drop (n - 0) keys), part-length, length-drop (n - 0) keys)
+
+module _ (keys₀ keys counts : List ℕ) (pages n b : ℕ) (s : Planning keys₀ keys counts pages n b) where
+  pub part-prefixes : Prefixes (take (n - 0) keys)
+  part-prefixes = let z : n - 0 ≡ n = omega arith in rw z (s .listed)
+
+  pub planning-next : (r : BandCounts) (after : List ℕ) → 0 < b → BandCounted (take (n - 0) keys) r after → length after ≡ length (take (n - 0) keys)
+      → Planning keys₀ (after ++ drop (n - 0) keys) (set (set counts (2 * (b - 1)) (r .pages)) (2 * (b - 1) + 1) (r .roots)) (pages + r .pages) (r .roots) (b - 1)
+  planning-next r after some c same = go (b - 1) (omega arith)
+    where
+      z : n - 0 ≡ n
+      z = omega arith
+
+      q-length : length (take (n - 0) keys) ≡ n
+      q-length = ap (λ (k : ℕ). length (take k keys)) z ∙ length-take-le n keys (s .within)
+
+      first-roots : take (r .roots) (after ++ drop (n - 0) keys) ≡ rootsAbove (take n keys)
+      first-roots = first-ones keys n (r .roots) after (s .within) same (omega (arith, c .roots-few, q-length)) (c .lifted)
+
+      pages-is : r .pages ≡ pageCount (bandAbove (take n keys))
+      pages-is = c .pages-are ∙ ap (λ (k : ℕ). pageCount (bandAbove (take k keys))) z
+
+      roots-is′ : r .roots ≡ rootsIn (bandAbove (take n keys))
+      roots-is′ = c .roots-are ∙ ap (λ (k : ℕ). rootsIn (bandAbove (take k keys))) z
+
+      go : (b′ : ℕ) → b ≡ suc b′ → Planning keys₀ (after ++ drop (n - 0) keys) (set (set counts (2 * b′) (r .pages)) (2 * b′ + 1) (r .roots)) (pages + r .pages) (r .roots) b′
+      go b′ e =
+          record {
+            listed = rw first-roots (roots-prefixes (take n keys) (s .listed));
+            within = omega (arith, back-length keys n (r .roots) after (s .within) same (omega (arith, c .roots-few, q-length)) (c .lifted), c .roots-few, q-length, s .within);
+            same = back-length keys n (r .roots) after (s .within) same (omega (arith, c .roots-few, q-length)) (c .lifted) ∙ s .same;
+            done = bandAbove (take n keys) ∷ s .done;
+            bands-are = s .bands-are ∙ ap (λ (k : ℕ). bandsUp k (take n keys) ++ s .done) e ∙ append-assoc (bandsUp b′ (rootsAbove (take n keys))) (bandAbove (take n keys) ∷ []) (s .done) ∙ ap (λ (l : List ℕ). bandsUp b′ l ++ bandAbove (take n keys) ∷ s .done) (sym first-roots);
+            counts-are = ap (λ (l : List ℕ). set (set l (2 * b′) (r .pages)) (2 * b′ + 1) (r .roots)) (s .counts-are ∙ ap (λ (k : ℕ). replicate (2 * k) 0 ++ flatMap countsIn (s .done)) e)
+                ∙ counts-stored b′ (r .pages) (r .roots) (flatMap countsIn (s .done))
+                ∙ ap₂ (λ (i j : ℕ). replicate (2 * b′) 0 ++ i ∷ j ∷ flatMap countsIn (s .done)) pages-is roots-is′
+                ∙ more b′;
+            pages-are = sum;
+            pages-few = omega (arith, s .pages-few, c .pages-few, q-length, s .listed .few, length-take-le n keys (s .within));
+          }
+        where
+          more : (b′ : ℕ) → replicate (2 * b′) 0 ++ length (pagesOf (bandAbove (take n keys))) ∷ rootsIn (bandAbove (take n keys)) ∷ flatMap countsIn (s .done) ≡ replicate (2 * b′) 0 ++ flatMap countsIn (bandAbove (take n keys) ∷ s .done)
+          more b′ = unfold flatMap in refl
+
+          sum : pages + r .pages ≡ total (map pageCount (bandAbove (take n keys) ∷ s .done))
+          sum = unfold total in omega (arith, s .pages-are, pages-is)
+
+pub planning-end : (keys₀ keys counts : List ℕ) (pages n b : ℕ) → Planning keys₀ keys counts pages n b → b ≤ 0 → Planned keys₀ (record { counts = counts; pages = pages })
+unfolding countsOf pagesIn
+planning-end keys₀ keys counts pages n b s none =
+    let z : b ≡ 0 = omega arith in
+    let d : bandsOf keys₀ ≡ s .done = s .bands-are ∙ ap (λ (k : ℕ). bandsUp k (take n keys) ++ s .done) z in
+    record {
+      counts-are = s .counts-are ∙ ap (λ (k : ℕ). replicate (2 * k) 0 ++ flatMap countsIn (s .done)) z ∙ ap (flatMap countsIn) (sym d);
+      pages-are = s .pages-are ∙ ap (λ (l : List (List (List ℕ))). total (map pageCount l)) (sym d);
+      few = omega (arith, s .pages-few);
+    }
