@@ -9,7 +9,6 @@
  * is 0, and a buffer that is written must not overlap one that is read.
  *
  * Every function that takes an image checks all of it first; there is no need to call lpt_check before.
- * docs/PERFORMANCE.md has the stack that each function uses.
  */
 #ifndef LPT_H
 #define LPT_H
