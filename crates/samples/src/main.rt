@@ -1,0 +1,29 @@
+// A test: the sample plates that are not proved as theorems, packings at their edges, and every refusal number but 16, through the public jobs.
+// Each case prints a line, and the last line counts those that were right.
+mod gates;
+mod images;
+mod judge;
+mod plates;
+mod questions;
+mod refusals;
+mod say;
+
+fn main() {
+    let mut tally = say::none();
+    tally = plates::dense(tally);
+    tally = plates::packings(tally);
+    tally = plates::printed(tally);
+    tally = refusals::headers(tally);
+    tally = refusals::counts(tally);
+    tally = refusals::heads(tally);
+    tally = refusals::nodes(tally);
+    tally = refusals::packed(tally);
+    tally = questions::lists(tally);
+    tally = questions::buffers(tally);
+    tally = questions::admissions(tally);
+    tally = questions::rectangles(tally);
+    tally = questions::ranks(tally);
+    tally = gates::lockouts(tally);
+    tally = gates::limits(tally);
+    say::count(tally);
+}
