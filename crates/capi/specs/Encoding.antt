@@ -1,9 +1,15 @@
 -- How outcomes are handed to C: the value, or the negated number of the question that got a no.
 -- Assumes nothing.
 use mathlib.Core.List.{List, [], _∷_, _++_}
-use Prim.Native.Nat.{ℕ, _+_, _*_}
+use mathlib.Core.Path.{_≡_}
+use Prim.Native.Nat.{ℕ, _+_, _*_, _%_}
 use lib.IntN.{ℤ, pos, negℤ}
+use Rattle.format.specs.declared.Admission.{Admission}
 use Rattle.format.specs.declared.Rectangle.{Rectangle}
+use Rattle.format.specs.Writer.{write, bufferAfterWrite}
+use Rattle.writer.specs.List.{pairsIn}
+use Rattle.writer.specs.declared.Written.{Written}
+use Rattle.writer.specs.declared.Written.the-variants.{Length, Refused}
 use Rattle.format.specs.Question.{Outcome, refused, returns}
 use Rattle.format.specs.Answer.{LookupAnswer, absent, listed}
 
@@ -31,3 +37,13 @@ encodedFind (refused n) = negℤ (pos n)
 -- the rectangle of holders h0 to h1 and slots s0 to s1
 abbrev pub rectangleOf : ℕ → ℕ → ℕ → ℕ → Rectangle
 rectangleOf h0 h1 s0 s1 = record { holders = record { low = h0; high = h1 }; slots = record { low = s0; high = s1 } }
+
+-- the writer's answer, below 2 ^ 32
+abbrev pub encodedLength : Written → ℤ
+encodedLength (Length n) = pos (n % 4294967296)
+encodedLength (Refused n) = negℤ (pos n)
+
+-- the writer: what it returns, and the buffer at exit
+pub record WrittenToC (list : List Admission) (buffer : List ℕ) (r : ℤ) (buffer′ : List ℕ) : Type 0 where
+  pub returned : r ≡ encoded (write (pairsIn list) buffer)
+  pub bytes : buffer′ ≡ bufferAfterWrite (pairsIn list) buffer

@@ -6,7 +6,7 @@ ghost use lib.IntN.{pos, negℤ};
 ghost use Rattle.format.specs.Writer;
 ghost use Rattle.format.specs.Answer;
 ghost use Rattle.format.specs.Scan;
-ghost use Rattle.capi.specs.Encoding.{encoded, encodedLookup, lookupBuffer, encodedFind, rectangleOf};
+ghost use Rattle.capi.specs.Encoding.{encoded, encodedLookup, lookupBuffer, encodedFind, rectangleOf, encodedLength, WrittenToC};
 use checker::Checked;
 use format::Admission;
 use format::Range;
@@ -39,6 +39,24 @@ fn rectangle_of(h0: u16, h1: u16, s0: u16, s1: u16) -> Rectangle
         holders: Range { low: h0, high: h1 },
         slots: Range { low: s0, high: s1 },
     }
+}
+
+// The writer's answer. An image has fewer bytes than the remainder leaves, so it changes none.
+fn written(answered: Written) -> i64
+    ensures { λ r. ⌜ r ≡ encodedLength answered ⌝ }
+{
+    match answered {
+        Written::Length(n) => answer(n % 4294967296),
+        Written::Refused(n) => refusal(n),
+    }
+}
+
+// Over a lent slice of structs, so proved by hand.
+#[no_mangle]
+pub extern "C" fn lpt_write(list: &[Admission], out: &mut [u8]) -> i64
+    ensures { λ r. ⌜ WrittenToC (now (list .entry)) (now (out .entry)) r (now (out .exit)) ⌝ }
+{
+    written(writer::write(list, out))
 }
 
 #[no_mangle]

@@ -2,7 +2,8 @@
 ghost use mathlib.Core.Path.{_≡_};
 ghost use Rattle.format.specs.Band.{crossed};
 
-// A holder number and a slot number.
+// A holder number and a slot number, laid out as C lays it out.
+#[repr(C)]
 pub struct Admission {
     pub holder: u16,
     pub slot: u16,
