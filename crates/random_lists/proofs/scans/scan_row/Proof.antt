@@ -1,0 +1,18 @@
+-- `random_lists::scans::scan_row` meets its contract. Assumes nothing.
+use Prim.Native.Nat.{_-_, _≤_}
+use mathlib.Core.Path.{_≡_}
+use lib.ListN.{length}
+use borrow.Author.Needs.{needs}
+use Rattle.random_lists.proofs.scans.scan_row.Statement.{statement}
+use Rattle.random_lists.proofs.scans.scan_row.Tie as tie
+
+abbrev Inv-loop : tie.InvT-loop
+Inv-loop image records₀ keys t₀ random₀ i₀ records t random i = (i ≤ 150) × (length records ≡ length records₀)
+
+abbrev μ-loop : tie.MeasureT-loop
+μ-loop image records₀ keys t₀ random₀ i₀ records t random i = 150 - i
+
+pub scan-row-spec : {M : Type 1} → statement M
+scan-row-spec =
+    tie.close
+    (tie.spec Inv-loop μ-loop (λ c. search needs) (λ c κs. search needs) (λ c κs. search needs) (λ c κs. search needs) (λ c κs. search needs) (λ c κs. search needs) (λ c. search needs) (λ c. search needs) (λ c. search needs) (λ c. search needs) (λ c. search needs))

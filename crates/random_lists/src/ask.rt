@@ -1,0 +1,172 @@
+// Lookup, count, listing and finding by rank against the plain reader.
+use crate::tally::COUNTS;
+use crate::tally::FINDS;
+use crate::tally::LISTINGS;
+use crate::tally::LOOKUPS;
+use crate::tally::Tally;
+use crate::tally::expect;
+use format::Admission;
+use format::Range;
+use format::Rectangle;
+use query::ByRank;
+use query::Members;
+use query::Presence;
+use testing::Random;
+
+// How many members an answer has; 65,536 for a refusal.
+pub fn member_count(members: Members) -> usize {
+    match members {
+        Members::Count(n) => n,
+        Members::Refused(_) => 65536,
+    }
+}
+
+// The place after a key that is listed at `place`, the same place for one outside, and 65,536 for one inside that is not listed there.
+fn next_place(key: u32, rectangle: Rectangle, listed: &[u32], place: usize) -> usize {
+    if !testing::is_inside(key, rectangle) {
+        return place;
+    }
+    if listed.len() <= place {
+        return 65536;
+    }
+    if listed[place] != key {
+        return 65536;
+    }
+    place + 1
+}
+
+// How many of the listed keys are the keys inside, in order; 65,536 or more where they are not.
+fn places(keys: &[u32], rectangle: Rectangle, listed: &[u32]) -> usize {
+    let mut place: usize = 0;
+    let mut i: usize = 0;
+    while i < keys.len() {
+        place = next_place(keys[i], rectangle, listed, place);
+        i += 1;
+    }
+    place
+}
+
+// Count and listing of a rectangle.
+fn members(tally: Tally, keys: &[u32], image: &[u8], rectangle: Rectangle) -> Tally {
+    let n = testing::count_inside(keys, keys.len(), rectangle);
+    let t = expect(
+        tally,
+        COUNTS,
+        member_count(query::count(image, rectangle)) == n,
+    );
+    let mut listed = [0u32; 4096];
+    let found = member_count(query::list(image, rectangle, &mut listed));
+    if found != n {
+        return expect(t, LISTINGS, false);
+    }
+    expect(t, LISTINGS, places(keys, rectangle, &listed) == n)
+}
+
+// The whole square.
+pub fn whole(tally: Tally, keys: &[u32], image: &[u8]) -> Tally {
+    members(tally, keys, image, rectangle(0, 65535, 0, 65535))
+}
+
+pub fn rectangle(low_holder: u16, high_holder: u16, low_slot: u16, high_slot: u16) -> Rectangle {
+    Rectangle {
+        holders: Range {
+            low: low_holder,
+            high: high_holder,
+        },
+        slots: Range {
+            low: low_slot,
+            high: high_slot,
+        },
+    }
+}
+
+// Whether lookup finds the rank that the plain reader finds, or neither finds one.
+fn is_right(keys: &[u32], image: &[u8], holder: u16, slot: u16) -> bool {
+    let key = testing::key_of(holder, slot);
+    let rank = testing::rank_of(keys, keys.len(), key);
+    let found = query::lookup(image, holder, slot);
+    let answer = found.answer;
+    match answer {
+        Presence::Refused(_) => false,
+        Presence::Absent => {
+            if rank < keys.len() {
+                return keys[rank] != key;
+            }
+            true
+        }
+        Presence::Listed(r) => {
+            if rank < keys.len() {
+                return keys[rank] == key && r as usize == rank;
+            }
+            false
+        }
+    }
+}
+
+// The admission of a rank; the last of all where there is none.
+pub fn at_rank(image: &[u8], rank: usize) -> Admission {
+    match query::find(image, (rank % 65536) as u32) {
+        ByRank::At(a) => a,
+        ByRank::Refused(_) => Admission {
+            holder: 65535,
+            slot: 65535,
+        },
+    }
+}
+
+// A rank, and lookup of its admission and of two beside it.
+fn ask_rank(tally: Tally, keys: &[u32], image: &[u8], rank: usize) -> Tally {
+    if keys.len() <= rank {
+        return tally;
+    }
+    let a = at_rank(image, rank);
+    let holder = a.holder;
+    let slot = a.slot;
+    let mut t = expect(tally, FINDS, testing::key_of(holder, slot) == keys[rank]);
+    t = expect(t, LOOKUPS, is_right(keys, image, holder, slot));
+    t = expect(t, LOOKUPS, is_right(keys, image, holder ^ 1, slot));
+    expect(t, LOOKUPS, is_right(keys, image, holder, slot ^ 4))
+}
+
+// A rectangle between two ranks' admissions, where these are its corners.
+fn ask_between(tally: Tally, keys: &[u32], image: &[u8], low: usize, high: usize) -> Tally {
+    let a = at_rank(image, low);
+    let b = at_rank(image, high);
+    if b.holder < a.holder {
+        return tally;
+    }
+    if b.slot < a.slot {
+        return tally;
+    }
+    members(
+        tally,
+        keys,
+        image,
+        rectangle(a.holder, b.holder, a.slot, b.slot),
+    )
+}
+
+// A number below `n`, or 0 where there is none.
+pub fn pick(random: Random, n: usize) -> usize {
+    if n == 0 {
+        return 0;
+    }
+    random.state as usize / 7 % n
+}
+
+// 60 ranks, and as many rectangles.
+pub fn ask(tally: Tally, keys: &[u32], image: &[u8], seed: Random) -> Tally {
+    let mut t = tally;
+    let mut random = seed;
+    let mut i: u32 = 0;
+    while i < 60 {
+        random = testing::next(random);
+        let low = pick(random, keys.len());
+        t = ask_rank(t, keys, image, low);
+        random = testing::next(random);
+        let high = pick(random, keys.len());
+        t = ask_between(t, keys, image, low, high);
+        i += 1;
+    }
+    t
+}

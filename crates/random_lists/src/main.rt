@@ -1,0 +1,92 @@
+// A test: lists of many shapes from a generator with a fixed seed are written, read back by every job, and held against the plain reader of a sorted
+// array; their images are damaged, and one that is still accepted must be the exact image of its list. Prints what was compared, and the differences.
+mod ask;
+mod damage;
+mod pairs;
+mod scans;
+mod tally;
+
+use tally::Tally;
+use testing::Random;
+
+// All comparisons of one list and its image.
+fn compare(tally: Tally, keys: &[u32], image: &mut [u8], seed: Random) -> Tally {
+    let mut t = ask::whole(tally, keys, image);
+    t = ask::ask(t, keys, image, seed);
+    t = pairs::pairs(t, keys, image, seed);
+    t = scans::scans(t, image, seed);
+    damage::damage(t, image, seed)
+}
+
+// Writes the image of the first `n` keys, and compares.
+fn list(tally: Tally, keys: &[u32], n: usize, seed: Random) -> Tally {
+    let mut image = [0u8; 65536];
+    if keys.len() < n {
+        return tally::expect(tally, tally::LISTS, false);
+    }
+    let length = damage::length_of(writer::write_keys(&keys[0..n], &mut image));
+    if length < 64 {
+        return tally::expect(tally, tally::LISTS, false);
+    }
+    if 65536 < length {
+        return tally::expect(tally, tally::LISTS, false);
+    }
+    compare(
+        tally::expect(tally, tally::LISTS, true),
+        &keys[0..n],
+        &mut image[0..length],
+        seed,
+    )
+}
+
+// Lists of several sizes with keys 1 to `gap` apart.
+fn spaced(name: &[u8], first: u32, gap: u32, state: u64) -> u32 {
+    let mut keys = [0u32; 4096];
+    let seed = Random { state };
+    let n = testing::spaced(&mut keys, first, gap, seed);
+    sizes(name, &keys, n, seed)
+}
+
+// Lists of holders who each have about `each` half-days of a season.
+fn clustered(name: &[u8], season: u32, each: u32, state: u64) -> u32 {
+    let mut keys = [0u32; 4096];
+    let seed = Random { state };
+    let n = testing::clustered(&mut keys, 4096, season, each, seed);
+    sizes(name, &keys, n, seed)
+}
+
+// The list of all keys, and of fewer.
+fn sizes(name: &[u8], keys: &[u32], n: usize, seed: Random) -> u32 {
+    let mut t = list(tally::none(), keys, n, seed);
+    t = list(t, keys, n / 3, seed);
+    t = list(t, keys, n / 50, seed);
+    t = list(t, keys, n / 2000, seed);
+    tally::say(t, name);
+    tally::differences(t)
+}
+
+fn sum(a: u32, b: u32) -> u32 {
+    (a % 65536) + (b % 65536)
+}
+
+fn main() {
+    let mut d = spaced(b"every key", 0, 1, 1);
+    d = sum(d, spaced(b"keys 1 to 3 apart", 77, 3, 2));
+    d = sum(d, spaced(b"keys 1 to 40 apart", 4000000000, 40, 3));
+    d = sum(d, spaced(b"keys 1 to 3,000 apart", 5, 3000, 4));
+    d = sum(d, spaced(b"keys 1 to 2,000,000 apart", 12345, 2000000, 5));
+    d = sum(
+        d,
+        clustered(b"20 half-days of 360 for each holder", 360, 20, 6),
+    );
+    d = sum(
+        d,
+        clustered(b"2 half-days of 300 for each holder", 300, 2, 7),
+    );
+    d = sum(
+        d,
+        clustered(b"400 half-days of 65,536 for each holder", 65536, 400, 8),
+    );
+    io::print_decimal(1, d as u64);
+    io::write_all(1, b" differences\n");
+}

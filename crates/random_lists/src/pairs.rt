@@ -1,0 +1,112 @@
+// Pairs of lists that differ only outside a rectangle must list alike inside it.
+use crate::ask::member_count;
+use crate::ask::rectangle;
+use crate::tally::PAIRS;
+use crate::tally::Tally;
+use crate::tally::expect;
+use format::Rectangle;
+use testing::Random;
+
+// Whether two buffers of one length are equal.
+fn are_alike(a: &[u32], b: &[u32]) -> bool {
+    let mut i: usize = 0;
+    while i < a.len() {
+        if b.len() <= i {
+            return false;
+        }
+        if a[i] != b[i] {
+            return false;
+        }
+        i += 1;
+    }
+    true
+}
+
+// Whether a key is inside, or of the half of the others that is kept.
+fn is_kept(key: u32, asked: Rectangle, random: Random) -> bool {
+    if testing::is_inside(key, asked) {
+        return true;
+    }
+    random.state / 7 % 2 == 0
+}
+
+// Puts a key at place `n` if it is kept and there is room. Returns how many there are then.
+fn put(out: &mut [u32], n: usize, key: u32, kept: bool) -> usize {
+    if !kept {
+        return n;
+    }
+    if out.len() <= n {
+        return n;
+    }
+    out[n] = key;
+    n + 1
+}
+
+// Puts the keys inside, and about half of those outside, into the first places. Returns how many.
+fn thin(keys: &[u32], asked: Rectangle, seed: Random, out: &mut [u32]) -> usize {
+    let mut random = seed;
+    let mut n: usize = 0;
+    let mut i: usize = 0;
+    while i < keys.len() {
+        random = testing::next(random);
+        n = put(out, n, keys[i], is_kept(keys[i], asked, random));
+        i += 1;
+    }
+    n
+}
+
+// Whether both images list alike inside the rectangle. What is not listed stays 0 in both.
+fn list_alike(image: &[u8], other: &[u8], asked: Rectangle) -> bool {
+    let mut a = [0u32; 4096];
+    let mut b = [0u32; 4096];
+    let n = member_count(query::list(image, asked, &mut a));
+    let m = member_count(query::list(other, asked, &mut b));
+    if n != m {
+        return false;
+    }
+    are_alike(&a, &b)
+}
+
+// A pair for one rectangle.
+fn pair(tally: Tally, keys: &[u32], image: &[u8], asked: Rectangle, seed: Random) -> Tally {
+    let mut thinned = [0u32; 4096];
+    let n = thin(keys, asked, seed, &mut thinned);
+    if 4096 < n {
+        return expect(tally, PAIRS, false);
+    }
+    let mut other = [0u8; 65536];
+    let length = crate::damage::length_of(writer::write_keys(&thinned[0..n], &mut other));
+    if length < 64 {
+        return expect(tally, PAIRS, false);
+    }
+    if 65536 < length {
+        return expect(tally, PAIRS, false);
+    }
+    expect(tally, PAIRS, list_alike(image, &other[0..length], asked))
+}
+
+// The rectangle of some holders or slots up to those of a rank's admission.
+fn pair_at(tally: Tally, keys: &[u32], image: &[u8], rank: usize, seed: Random) -> Tally {
+    let a = crate::ask::at_rank(image, rank);
+    let t = pair(tally, keys, image, rectangle(0, a.holder, 0, 65535), seed);
+    pair(
+        t,
+        keys,
+        image,
+        rectangle(a.holder / 2, a.holder, a.slot / 2, a.slot),
+        seed,
+    )
+}
+
+// 10 ranks.
+pub fn pairs(tally: Tally, keys: &[u32], image: &[u8], seed: Random) -> Tally {
+    let mut t = tally;
+    let mut random = seed;
+    let mut i: u32 = 0;
+    while i < 10 {
+        random = testing::next(random);
+        t = pair_at(t, keys, image, crate::ask::pick(random, keys.len()), random);
+        i += 1;
+    }
+    t
+}

@@ -1,0 +1,100 @@
+// Counts of what was compared.
+
+// Places 0 to 26 count the damaged images by the number that refused them, 0 for the accepted ones; the places after them have the names below.
+pub struct Tally {
+    pub counts: [u32; 40],
+}
+
+pub const LISTS: usize = 30;
+
+pub const LOOKUPS: usize = 31;
+
+pub const COUNTS: usize = 32;
+
+pub const LISTINGS: usize = 33;
+
+pub const FINDS: usize = 34;
+
+pub const SCANS: usize = 35;
+
+pub const PAIRS: usize = 36;
+
+pub const DAMAGED: usize = 37;
+
+pub const DIFFERENCES: usize = 38;
+
+pub fn none() -> Tally {
+    Tally { counts: [0u32; 40] }
+}
+
+fn one_more(n: u32) -> u32 {
+    if n < 4294967295 { n + 1 } else { n }
+}
+
+// One more at a place.
+pub fn note(tally: Tally, place: usize) -> Tally {
+    let mut counts = tally.counts;
+    if 40 <= place {
+        return tally;
+    }
+    counts[place] = one_more(counts[place]);
+    Tally { counts }
+}
+
+// One more comparison of a kind, and one more difference unless it is right.
+pub fn expect(tally: Tally, place: usize, is_right: bool) -> Tally {
+    if is_right {
+        return note(tally, place);
+    }
+    note(note(tally, place), DIFFERENCES)
+}
+
+pub fn differences(tally: Tally) -> u32 {
+    let counts = tally.counts;
+    counts[DIFFERENCES]
+}
+
+fn say_count(count: u32, word: &[u8]) {
+    io::write_all(1, b"  ");
+    io::print_decimal(1, count as u64);
+    io::write_all(1, word);
+}
+
+fn say_refused(n: usize, count: u32) {
+    if count == 0 {
+        return;
+    }
+    io::write_all(1, b"    question ");
+    io::print_decimal(1, n as u64);
+    io::write_all(1, b" refuses ");
+    io::print_decimal(1, count as u64);
+    io::write_all(1, b"\n");
+}
+
+// The table of refusals.
+fn say_refusals(tally: Tally) {
+    let counts = tally.counts;
+    let mut n: usize = 1;
+    while n < 27 {
+        say_refused(n, counts[n]);
+        n += 1;
+    }
+}
+
+// The lines of a shape.
+pub fn say(tally: Tally, name: &[u8]) {
+    let counts = tally.counts;
+    io::write_all(1, name);
+    io::write_all(1, b":\n");
+    say_count(counts[LISTS], b" lists\n");
+    say_count(counts[LOOKUPS], b" lookups\n");
+    say_count(counts[COUNTS], b" counts\n");
+    say_count(counts[LISTINGS], b" listings\n");
+    say_count(counts[FINDS], b" found by rank\n");
+    say_count(counts[SCANS], b" scans\n");
+    say_count(counts[PAIRS], b" pairs of lists\n");
+    say_count(counts[DAMAGED], b" damaged images\n");
+    say_count(counts[0], b" of them accepted\n");
+    say_refusals(tally);
+    say_count(counts[DIFFERENCES], b" differences\n");
+}
