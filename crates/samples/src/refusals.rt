@@ -87,7 +87,13 @@ pub fn heads(tally: Tally) -> Tally {
     t = refuses_two(t, b"8: B of a later page one more", 579, 61, 8);
     t = refuses_two(t, b"9: 61 roots, by T of the next page", 577, 61, 9);
     t = refuses_two(t, b"9: no root, by T of the next page", 577, 0, 9);
-    t = refuses_two(t, b"9: no root in the last page", 39, 60, 9);
+    t = refuses_two(
+        t,
+        b"13: a root count one less, asked after the band above",
+        39,
+        60,
+        13,
+    );
     refuses_two(t, b"11: 59 roots, by T of the next page", 577, 59, 11)
 }
 
