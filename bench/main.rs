@@ -10,8 +10,7 @@ use reference::{unweave, weave, Admission, Rect};
 /// One implementation of the jobs; an answer -n is question n's no.
 struct Jobs {
     name: &'static str,
-    /// Not in the C interface yet.
-    write: Option<fn(&[Admission], &mut [u8]) -> i64>,
+    write: fn(&[Admission], &mut [u8]) -> i64,
     check: fn(&[u8]) -> i64,
     lookup: fn(&[u8], u16, u16, &mut [u32; 9]) -> i64,
     count: fn(&[u8], Rect) -> i64,
@@ -30,7 +29,7 @@ fn answer<T>(r: Result<T, reference::No>, f: impl Fn(T) -> i64) -> i64 {
 fn hand_written() -> Jobs {
     Jobs {
         name: "hand-written",
-        write: Some(|l, o| answer(reference::write(l, o), |x| x as i64)),
+        write: |l, o| answer(reference::write(l, o), |x| x as i64),
         check: |i| answer(reference::check(i), |x| x as i64),
         lookup: |i, h, s, o| match reference::lookup(i, h, s) {
             Ok(Some(f)) => {
@@ -49,6 +48,7 @@ fn hand_written() -> Jobs {
 }
 
 extern "C" {
+    fn lpt_write(list: *const Admission, n: usize, out: *mut u8, out_len: usize) -> i64;
     fn lpt_check(img: *const u8, len: usize) -> i64;
     fn lpt_lookup(img: *const u8, len: usize, holder: u16, slot: u16, out: *mut u32) -> i64;
     fn lpt_count(img: *const u8, len: usize, h0: u16, h1: u16, s0: u16, s1: u16) -> i64;
@@ -60,7 +60,7 @@ extern "C" {
 fn verified() -> Jobs {
     Jobs {
         name: "verified",
-        write: None,
+        write: |l, o| unsafe { lpt_write(l.as_ptr(), l.len(), o.as_mut_ptr(), o.len()) },
         check: |i| unsafe { lpt_check(i.as_ptr(), i.len()) },
         lookup: |i, h, s, o| unsafe { lpt_lookup(i.as_ptr(), i.len(), h, s, o.as_mut_ptr()) },
         count: |i, q| unsafe { lpt_count(i.as_ptr(), i.len(), q.h0, q.h1, q.s0, q.s1) },
@@ -179,12 +179,10 @@ fn compare(ds: &[Data], a: &Jobs, b: &Jobs) -> usize {
             let list: Vec<Admission> = d.list.iter().copied().skip(r.below(50) as usize).step_by(step).collect();
             let (mut oa, mut ob) = (vec![7u8; 32768], vec![7u8; 32768]);
             let short = if round % 9 == 0 { r.below(3000) as usize } else { 32768 };
-            let x = (a.write.unwrap())(&list, &mut oa[..short]);
-            if let Some(write) = b.write {
-                let y = write(&list, &mut ob[..short]);
-                assert!(x == y && oa == ob, "write {x} {y}");
-                n += 1;
-            }
+            let x = (a.write)(&list, &mut oa[..short]);
+            let y = (b.write)(&list, &mut ob[..short]);
+            assert!(x == y && oa == ob, "write {x} {y}");
+            n += 1;
             if x < 0 {
                 continue;
             }
@@ -267,9 +265,7 @@ fn rows(d: &'static Data, both: &[Jobs]) -> Vec<Row> {
         cases.extend(sorted);
         rows.push(Row { op: op.to_string(), cases });
     };
-    if both.iter().all(|j| j.write.is_some()) {
-        add("write", &|j| { let (f, mut o) = (j.write.unwrap(), vec![0u8; 32768]); case(j.name, 1, move || f(bb(&d.list), &mut o) as u64) }, None);
-    }
+    add("write", &|j| { let (f, mut o) = (j.write, vec![0u8; 32768]); case(j.name, 1, move || f(bb(&d.list), &mut o) as u64) }, None);
     add("check", &|j| { let f = j.check; case(j.name, 1, move || f(bb(img)) as u64) },
         Some(case("sorted array", 1, move || bb(&d.keys).windows(2).all(|w| w[0] < w[1]) as u64)));
     for (op, qs) in [("lookup, listed", &d.hits), ("lookup, absent", &d.misses)] {
