@@ -9,6 +9,9 @@
  * is 0, and a buffer that is written must not overlap one that is read.
  *
  * Every function that takes an image checks all of it first; there is no need to call lpt_check before.
+ *
+ * Stack, measured on 4,096 random admissions on x86-64: lpt_write 52,600 bytes, lpt_list and lpt_count
+ * 5,128, lpt_lookup and lpt_scan 1,256, lpt_find 696, lpt_check 296.
  */
 #ifndef LPT_H
 #define LPT_H
