@@ -29,47 +29,25 @@ fn wide(x: u16) -> usize
 
 // Four bytes as one number, the first the highest.
 fn join4(a: u8, b: u8, c: u8, d: u8) -> u64
-    ensures { λ r. ⌜ r ≡ ((a * 256 + b) * 256 + c) * 256 + d ⌝ }
+    ensures { λ r. ⌜ (r ≡ ((a * 256 + b) * 256 + c) * 256 + d) × (r < 4294967296) ⌝ }
 {
     (((a as u64) * 256 + (b as u64)) * 256 + (c as u64)) * 256 + (d as u64)
-}
-
-// Eight bytes as one number, the first the highest.
-fn join8(a: u8, b: u8, c: u8, d: u8, e: u8, f: u8, g: u8, h: u8) -> u64
-    ensures { λ r. ⌜ r ≡ ((((((a * 256 + b) * 256 + c) * 256 + d) * 256 + e) * 256 + f) * 256 + g) * 256 + h ⌝ }
-{
-    (((((((a as u64) * 256 + (b as u64)) * 256 + (c as u64)) * 256 + (d as u64)) * 256 + (e as u64))
-        * 256
-        + (f as u64))
-        * 256
-        + (g as u64))
-        * 256
-        + (h as u64)
 }
 
 // Four bytes of `s` as one number, the first the highest.
 fn half(s: &[u8], at: usize) -> u64
     requires { ⌜ at + 4 ≤ length (now s) ⌝ }
-    ensures { λ r. ⌜ r ≡ halfAt (now (s .entry)) at ⌝ }
+    ensures { λ r. ⌜ (r ≡ halfAt (now (s .entry)) at) × (r < 4294967296) ⌝ }
 {
     join4(s[at], s[at + 1], s[at + 2], s[at + 3])
 }
 
-// Eight bytes of `s` as one number, the first the highest.
+// Eight bytes of `s` as one number, the first the highest: from two halves, each of which is compiled to one load.
 pub fn word(s: &[u8], at: usize) -> u64
     requires { ⌜ at + 8 ≤ length (now s) ⌝ }
     ensures { λ r. ⌜ r ≡ wordAt (now (s .entry)) at ⌝ }
 {
-    join8(
-        s[at],
-        s[at + 1],
-        s[at + 2],
-        s[at + 3],
-        s[at + 4],
-        s[at + 5],
-        s[at + 6],
-        s[at + 7],
-    )
+    half(s, at) * 4294967296 + half(s, at + 4)
 }
 
 // The set bits of the words before each of eight words and the one after them.

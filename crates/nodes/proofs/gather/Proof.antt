@@ -19,7 +19,7 @@ unfolding wordsIn
 returns c =
     let words : _ ≡ wordsIn (now (c .before .before .before .before .before .before .before .before .before .before .args .bytes)) (c .before .before .before .before .before .before .before .before .before .before .args .at) =
     λ i.
-    c .before .before .before .before .before .before .before .before .half .ensures i ∷ c .before .before .before .before .before .before .before .word .ensures i ∷ c .before .before .before .before .before .before .word2 .ensures i ∷ c .before .before .before .before .before .word3 .ensures i ∷ c .before .before .before .before .word4 .ensures i ∷ c .before .before .before .word5 .ensures i ∷ c .before .before .word6 .ensures i ∷ c .before .word7 .ensures i ∷ 0 ∷ [] in
+    c .before .before .before .before .before .before .before .before .half .ensures .0 i ∷ c .before .before .before .before .before .before .before .word .ensures i ∷ c .before .before .before .before .before .before .word2 .ensures i ∷ c .before .before .before .before .before .word3 .ensures i ∷ c .before .before .before .before .word4 .ensures i ∷ c .before .before .before .word5 .ensures i ∷ c .before .before .word6 .ensures i ∷ c .before .word7 .ensures i ∷ 0 ∷ [] in
     λ i. record { word = words i; before = (c .counts-before .ensures ∙ ap (countsBefore 0) words) i }
 
 pub gather-spec : {M : Type 1} → statement M

@@ -6,7 +6,7 @@ use Rattle.nodes.proofs.half.Tie as tie
 
 returns : tie.Need-returns
 unfolding halfAt
-returns c = c .join4 .ensures
+returns c = (c .join4 .ensures .0, c .join4 .ensures .1)
 
 pub half-spec : {M : Type 1} → statement M
 half-spec =
