@@ -2,26 +2,28 @@
 -- Assumes nothing.
 use mathlib.Core.Path.{_≡_, refl, sym, ap, ap₂, subst, _∙_}
 use mathlib.Core.List.{List}
-use Prim.Native.Nat.{ℕ, zero, suc, _+_, _-_, _*_, _/_, _%_, _^_, _≤_, _<_}
+use Prim.Native.Nat.{ℕ, zero, suc, _+_, _-_, _*_, _/_, _^_, _≤_, _<_}
 use native.Mathlib.Numerals.{add-one}
 use native.Mathlib.Decide.{decLt}
 use native.Mathlib.Omega.{arith}
-use lib.ListN.{length, getD}
+use lib.ListN.{length, getD, take}
+use Rattle.format.specs.Trie.{onBits}
 use Rattle.format.specs.Image.{outLinkCount, pageCount, pageLevels, pageNodes, pagePairs, pageRoots, pageT}
-use Rattle.format.proofs.Counting.{marks, page-nodes-counted}
-use Rattle.format.proofs.Descent.{bit, childAt, onBits-suc}
-use Rattle.format.proofs.Read.{pairs-240}
+use Rattle.format.proofs.Counting.{marks, marks-mono, page-nodes-counted}
+use Rattle.format.proofs.Descent.{bit, childAt}
+use Rattle.format.proofs.PageFacts.{page-facts}
 use Rattle.format.proofs.Places.{offset}
 use Rattle.format.proofs.Levels.{levelAt, prefixesAt, before, depth, before-roots, childPlace}
 use Rattle.format.proofs.Walk.{Reached, ReachedAt, Out, outLink, reached-any, reached-child, reached-index, reached-out, reached-place, links-total}
 use Rattle.format.proofs.Upward.{reached-level, reached-same, root-place, up-link}
 use Rattle.nodes.specs.declared.Words.{Words}
-use Rattle.nodes.specs.Words.{nodeIn, onesBefore}
+use Rattle.nodes.specs.Words.{countsBefore, nodeIn, onesBefore, wordsOf}
 use Rattle.query.specs.declared.page.Page.{Page}
 use Rattle.query.specs.Page.{Ready, PageRead, childIn}
-use Rattle.query.specs.Climb.{NodeOf, SideOf, ClimbRight}
+use Rattle.query.specs.Climb.{ClimbRight}
+use Rattle.query.specs.Select.{SideOf}
 use Rattle.query.proofs.Pages.{bytes, checked}
-use Rattle.query.proofs.Follow.{page-small, page-node, page-marks, page-child}
+use Rattle.query.proofs.Follow.{page-small, page-node, page-marks, page-child, page-first, page-on-bits}
 
 -- y is what stands in the level below the band where the climb started: it is still there, or at a node, k levels up, whose prefix goes on to y with the bits passed
 pub data Up (img : List ℕ) (b i y place bits k : ℕ) : Type 0 where
@@ -129,13 +131,13 @@ pub record Climb (img : List ℕ) (page : Page) (words : Words) (place₀ place 
   pub small : bits < unit
   pub up : Up img (page .band) (page .index) (getD (prefixesAt img (4 * page .band)) (outLink img (page .band) (page .index) place₀) 0) place bits level
 
-pub climb-start : {img : List ℕ} {page : Page} (r : Ready img) (d : PageRead img page) (n first : ℕ) → first ≡ page .b → page .b ≤ n → n < page .b + outLinkCount img (page .band) (page .index)
-    → Climb img page (page .words) (page .nodes + (n - first)) (page .nodes + (n - first)) 0 1 0
-climb-start r d n first e from to =
+pub climb-start : {img : List ℕ} {page : Page} {words : Words} (r : Ready img) (d : PageRead img page) → words ≡ page .words → (nodes n first : ℕ) → nodes ≡ page .nodes → first ≡ page .b → page .b ≤ n
+    → n < page .b + outLinkCount img (page .band) (page .index) → Climb img page words (nodes + (n - first)) (nodes + (n - first)) 0 1 0
+climb-start r d ew nodes n first en e from to =
     record {
       ready = r;
       read = d;
-      words-are = refl;
+      words-are = ew;
       few = omega arith;
       unit-is = refl;
       small = omega arith;
@@ -171,33 +173,47 @@ module _ {img : List ℕ} {page : Page} {words : Words} {place₀ place bits uni
         go (suc zero) le = (omega (arith, few-units), omega (arith, few-units, s .small), few-units)
         go (suc (suc t)) le = absurd (omega arith)
 
-    pub climb-node : (page .nodes ≤ 240) × (onesBefore (words .word) (words .before) 0 ≤ place - page .roots) × (place - page .roots < onesBefore (words .word) (words .before) (page .nodes))
-    unfolding marks Rattle.format.specs.Trie.onBits
-    climb-node =
-        let few = page-small (s .ready) (s .read) .1 in
-        (few, omega (arith, counted-at 0 (omega arith)), omega (arith, in-marks .1, counted-at (page .nodes) few))
+    all-marks : marks (pagePairs img (page .band) (page .index)) (page .nodes) ≡ onBits (pagePairs img (page .band) (page .index))
+    unfolding marks
+    all-marks =
+        let d = s .read in
+        let ps = pagePairs img (page .band) (page .index) in
+        let e : onBits (take (pageNodes img (page .band) (page .index)) ps) ≡ onBits ps =
+        omega (
+          arith,
+          links-total img (bytes (s .ready)) (checked (s .ready)) (s .ready .some) (page .band) (d .from) (d .to) (page .index) (d .in-band),
+          page-facts img (bytes (s .ready)) (checked (s .ready)) (page .band) (page .index) (d .from) (d .to) (d .in-band) .balance,
+        ) in
+        ap (λ (n : ℕ). onBits (take n ps)) (d .nodes) ∙ e
 
-    module _ {p : ℕ} (n : NodeOf (words .word) (words .before) (page .nodes) (place - page .roots) p) where
-      within : p < 240
-      within = omega (arith, n .within, page-small (s .ready) (s .read) .1)
+    -- what the search for the on bit asks
+    pub climb-bits : (words .before ≡ countsBefore 0 (words .word)) × (getD (words .word) 0 0 < 4294967296) × (place - page .roots < getD (words .before) 8 0)
+    climb-bits =
+        let d = s .read in
+        let g : words ≡ wordsOf img (64 * page .number) = s .words-are ∙ d .words in (
+          ap (λ (w : Words). w .before) g ∙ ap (countsBefore 0) (sym (ap (λ (w : Words). w .word) g)),
+          omega (arith, ap (λ (w : Words). getD (w .word) 0 0) (s .words-are), page-first (s .ready) d),
+          omega (arith, ap (λ (w : Words). getD (w .before) 8 0) (s .words-are), page-on-bits (s .ready) d, in-marks .1, all-marks),
+        )
 
-      two-bits : onesBefore (words .word) (words .before) (p + 1) ≡ onesBefore (words .word) (words .before) p + (nodeIn (words .word) p / 2 + nodeIn (words .word) p % 2)
-      unfolding marks
-      two-bits =
+    module _ {p : ℕ} (few : p < 240) {t : ℕ} (k : SideOf (words .word) (words .before) p (place - page .roots) t) where
+      -- the on bit's node is one of the page
+      within : p < page .nodes
+      within =
+          elim (decLt p (page .nodes)) [
+            | yes h ↦ h
+            | no h ↦ absurd (omega (arith, in-marks .1, marks-mono (pagePairs img (page .band) (page .index)) (page .nodes) p (omega arith), counted-at p (omega arith), child-from t (k .number)))
+          ]
+        where
+          child-from : (t : ℕ) → childIn (words .word) (words .before) 0 p t ≡ place - page .roots → onesBefore (words .word) (words .before) p ≤ place - page .roots
+          child-from zero e = unfold childIn in (omega arith)
+          child-from (suc t) e = unfold childIn in (omega arith)
+
+      pub climb-next : Climb img page words place₀ p (bits + t * unit) (unit * 2) (level + 1)
+      climb-next =
           let d = s .read in
-          let ps = pagePairs img (page .band) (page .index) in
-          let e : p < length ps = omega (arith, within, pairs-240 img (bytes (s .ready)) (checked (s .ready)) (page .band) (d .from) (d .to) (page .index) (d .in-band)) in
-          let v = read-at p within in
-          counted-at (p + 1) (omega (arith, within)) ∙ ap (marks ps) (add-one p) ∙ onBits-suc ps p e ∙ sym (ap₂ (λ (m k : ℕ). m + (k / 2 + k % 2)) (counted-at p (omega (arith, within))) v)
-
-      pub climb-side : (p < 240) × (onesBefore (words .word) (words .before) p ≤ place - page .roots) × (place - page .roots < onesBefore (words .word) (words .before) p + (nodeIn (words .word) p / 2 + nodeIn (words .word) p % 2))
-      climb-side = (within, n .from, omega (arith, n .to, two-bits))
-
-      pub climb-next : {t : ℕ} → SideOf (words .word) (words .before) p (place - page .roots) t → Climb img page words place₀ p (bits + t * unit) (unit * 2) (level + 1)
-      climb-next {t} k =
-          let d = s .read in
-          let on : 1 ≤ bit t (getD (pagePairs img (page .band) (page .index)) p 0) = rw (← read-at p within) (k .on) in
-          let child : childPlace img (page .band) (page .index) p t ≡ place = sym (page-child (s .ready) d p t within) ∙ child-at t (k .number) in
+          let on : 1 ≤ bit t (getD (pagePairs img (page .band) (page .index)) p 0) = rw (← read-at p few) (k .on) in
+          let child : childPlace img (page .band) (page .index) p t ≡ place = sym (page-child (s .ready) d p t few) ∙ child-at t (k .number) in
           record {
             ready = s .ready;
             read = d;
@@ -206,7 +222,7 @@ module _ {img : List ℕ} {page : Page} {words : Words} {place₀ place bits uni
             unit-is = ap (_* 2) (s .unit-is) ∙ unit-next level;
             small = bits-small t (k .small);
             up = subst (λ (u : ℕ). Up img (page .band) (page .index) (getD (prefixesAt img (4 * page .band)) (outLink img (page .band) (page .index) place₀) 0) p (bits + t * u) (level + 1)) (sym (s .unit-is))
-                (up-next img (s .ready) (page .band) (d .from) (d .to) (page .index) (d .in-band) (s .up) h (omega (arith, n .within, d .nodes)) (k .small) on child);
+                (up-next img (s .ready) (page .band) (d .from) (d .to) (page .index) (d .in-band) (s .up) h (omega (arith, within, d .nodes)) (k .small) on child);
           }
         where
           bits-small : (t : ℕ) → t ≤ 1 → bits + t * unit < unit * 2
@@ -227,7 +243,7 @@ module _ {img : List ℕ} {page : Page} {words : Words} {place₀ place bits uni
               omega (arith, climb-number)
               )
 
-  module _ (h : 4 ≤ level) (n first : ℕ) (e : first ≡ page .b) (from : page .b ≤ n) (start : place₀ ≡ page .nodes + (n - first)) where
+  module _ (h : 4 ≤ level) (n first : ℕ) (e : first ≡ page .b) (from : page .b ≤ n) {nodes : ℕ} (en : nodes ≡ page .nodes) (start : place₀ ≡ nodes + (n - first)) where
     four : level ≡ 4
     four = omega (arith, s .few)
 

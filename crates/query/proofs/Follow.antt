@@ -7,9 +7,11 @@ use native.Mathlib.Numerals.{add-one}
 use native.Mathlib.Decide.{decLt}
 use native.Mathlib.Omega.{arith}
 use lib.ListN.{length, getD, take}
+use Rattle.format.specs.Page.{Byte}
 use Rattle.format.specs.Trie.{onBits}
 use Rattle.format.specs.Answer.{absent, lookupAnswer}
 use Rattle.format.specs.Image.{pagePairs, pageT}
+use Rattle.format.proofs.Lists.{all-get}
 use Rattle.format.proofs.Read.{page-within}
 use Rattle.format.proofs.Counting.{marks}
 use Rattle.format.proofs.Descent.{bit}
@@ -17,9 +19,9 @@ use Rattle.format.proofs.Lookup.{keyBit, longer, place-off}
 use Rattle.format.proofs.Levels.{depth, prefixesAt, childPlace}
 use Rattle.format.proofs.Walk.{Reached, Out, reached-root, reached-place, reached-child, reached-out}
 use Rattle.nodes.specs.declared.Words.{Words}
-use Rattle.nodes.specs.Words.{nodeIn, onesBefore}
+use Rattle.nodes.specs.Words.{halfAt, nodeIn, onesBefore, wordsIn}
 use Rattle.nodes.proofs.Gathered.{nodesAt}
-use Rattle.nodes.proofs.Calls.{counted, node-read}
+use Rattle.nodes.proofs.Calls.{all-counted, counted, node-read}
 use Rattle.query.specs.declared.page.Page.{Page}
 use Rattle.query.specs.Page.{Ready, PageRead, childIn}
 use Rattle.query.specs.Way.{AtPrefix}
@@ -59,16 +61,28 @@ module _ {img : List ℕ} {page : Page} {key : ℕ} (r : Ready img) (d : PageRea
 
 -- what is read from a page's words
 module _ {img : List ℕ} {page : Page} (r : Ready img) (d : PageRead img page) where
-  fits : 64 * page .number + 64 ≤ length img
-  fits = omega (arith, d .number, page-within img (bytes r) (checked r) (page .band) (d .from) (d .to) (page .index) (d .in-band))
+  pub page-fits : 64 * page .number + 64 ≤ length img
+  page-fits = omega (arith, d .number, page-within img (bytes r) (checked r) (page .band) (d .from) (d .to) (page .index) (d .in-band))
 
   pub page-node : (p : ℕ) → p < 240 → nodeIn (page .words .word) p ≡ getD (pagePairs img (page .band) (page .index)) p 0
   unfolding pagePairs
-  page-node p h = node-read img (bytes r) (64 * page .number) fits (page .words) (d .words) p h ∙ ap (λ (n : ℕ). getD (nodesAt img (64 * n)) p 0) (d .number)
+  page-node p h = node-read img (bytes r) (64 * page .number) page-fits (page .words) (d .words) p h ∙ ap (λ (n : ℕ). getD (nodesAt img (64 * n)) p 0) (d .number)
 
   pub page-marks : (p : ℕ) → p ≤ 240 → onesBefore (page .words .word) (page .words .before) p ≡ marks (pagePairs img (page .band) (page .index)) p
   unfolding pagePairs marks
-  page-marks p h = counted img (bytes r) (64 * page .number) fits (page .words) (d .words) p h ∙ ap (λ (n : ℕ). onBits (take p (nodesAt img (64 * n)))) (d .number)
+  page-marks p h = counted img (bytes r) (64 * page .number) page-fits (page .words) (d .words) p h ∙ ap (λ (n : ℕ). onBits (take p (nodesAt img (64 * n)))) (d .number)
+
+  pub page-on-bits : getD (page .words .before) 8 0 ≡ onBits (pagePairs img (page .band) (page .index))
+  unfolding pagePairs
+  page-on-bits = all-counted img (bytes r) (64 * page .number) page-fits (page .words) (d .words) ∙ ap (λ (n : ℕ). onBits (nodesAt img (64 * n))) (d .number)
+
+  -- word 0 is four bytes
+  pub page-first : getD (page .words .word) 0 0 < 4294967296
+  unfolding halfAt wordsIn
+  page-first =
+      let byte : (i : ℕ) → getD img i 0 < 256 = λ i. all-get Byte img i 0 (omega arith) (bytes r) in
+      let at : ℕ = 64 * page .number + 4 in
+      omega (arith, ap (λ (w : Words). getD (w .word) 0 0) (d .words), byte at, byte (at + 1), byte (at + 2), byte (at + 3))
 
   pub page-child : (p side : ℕ) → p < 240 → childIn (page .words .word) (page .words .before) (page .roots) p side ≡ childPlace img (page .band) (page .index) p side
   unfolding childIn marks

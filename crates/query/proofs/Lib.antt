@@ -2,8 +2,12 @@ pub mod Pages
 pub mod Search
 pub mod Opened
 pub mod Follow
+pub mod Heads
 pub mod Sides
 pub mod Path
+pub mod Sums
+pub mod Selecting
+pub mod BitPlaces
 pub mod Climbing
 pub mod Ranked
 pub mod Ranks

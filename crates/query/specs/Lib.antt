@@ -1,5 +1,6 @@
 pub mod Page
 pub mod Way
+pub mod Select
 pub mod Climb
 pub mod Subtrie
 pub mod Walk

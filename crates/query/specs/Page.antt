@@ -5,10 +5,11 @@ use mathlib.Core.List.{List}
 use Prim.Native.Nat.{ℕ, zero, suc, _+_, _*_, _/_, _≤_, _<_}
 use Rattle.format.specs.Page.{numberAt}
 use Rattle.format.specs.Exact.{Accepted}
-use Rattle.format.specs.Image.{keyCount, pageB, pageCount, pageNodes, pageNumber, pageRoots, pageT, rootCount}
+use Rattle.format.specs.Image.{keyCount, outLinkCount, pageB, pageCount, pageNodes, pageNumber, pageRoots, pageT, rootCount}
 use Rattle.nodes.specs.Words.{wordsOf, onesBefore, nodeIn}
 use Rattle.query.specs.declared.page.Band.{Band}
 use Rattle.query.specs.declared.page.Page.{Page}
+use Rattle.query.specs.declared.page.PageHead.{PageHead}
 
 -- an accepted image that has keys
 pub record Ready (img : List ℕ) : Type 0 where
@@ -33,6 +34,17 @@ pub record LastPage (img : List ℕ) (b f x i : ℕ) : Type 0 where
   pub at : headAt img b f i ≤ x
   pub after : i + 1 < pageCount img b → x < headAt img b f (i + 1)
 
+-- the fields of a page's head
+pub record HeadRead (img : List ℕ) (head : PageHead) : Type 0 where
+  pub from : 1 ≤ head .band
+  pub to : head .band ≤ 8
+  pub in-band : head .index < pageCount img (head .band)
+  pub number : head .number ≡ pageNumber img (head .band) (head .index)
+  pub t : head .t ≡ pageT img (head .band) (head .index)
+  pub b : head .b ≡ pageB img (head .band) (head .index)
+  pub roots : head .roots ≡ pageRoots img (head .band) (head .index)
+  pub links : head .links ≡ outLinkCount img (head .band) (head .index)
+
 -- the fields of a page
 pub record PageRead (img : List ℕ) (page : Page) : Type 0 where
   pub from : 1 ≤ page .band
@@ -44,16 +56,6 @@ pub record PageRead (img : List ℕ) (page : Page) : Type 0 where
   pub roots : page .roots ≡ pageRoots img (page .band) (page .index)
   pub nodes : page .nodes ≡ pageNodes img (page .band) (page .index)
   pub words : page .words ≡ wordsOf img (64 * page .number)
-
--- where the third and the fourth level of a page of r roots start, and where the fourth ends, from its words
-abbrev pub thirdIn : List ℕ → List ℕ → ℕ → ℕ
-thirdIn word before r = r + onesBefore word before r
-
-abbrev pub fourthIn : List ℕ → List ℕ → ℕ → ℕ
-fourthIn word before r = r + onesBefore word before (thirdIn word before r)
-
-abbrev pub nodesIn : List ℕ → List ℕ → ℕ → ℕ
-nodesIn word before r = r + onesBefore word before (fourthIn word before r)
 
 -- the place to which the bit of a side of the node at a place leads, from a page's words and its number of roots
 unfoldable pub childIn : List ℕ → List ℕ → ℕ → ℕ → ℕ → ℕ

@@ -1,6 +1,7 @@
 // Lookup, count, listing and finding by rank. Each job asks 1 to 13 by itself first.
 mod climb;
 mod page;
+mod select;
 mod spot;
 mod subtrie;
 mod walk;

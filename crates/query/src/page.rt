@@ -1,15 +1,15 @@
 // Bands and pages of an accepted image, read from its bytes.
 ghost use mathlib.Core.Path.{_≡_};
-ghost use Prim.Native.Nat.{_+_, _*_, _≤_, _<_};
-ghost use lib.ListN.{length};
+ghost use Prim.Native.Nat.{_+_, _-_, _*_, _≤_, _<_};
+ghost use lib.ListN.{length, getD};
 ghost use Rattle.format.specs.Page.{numberAt};
-ghost use Rattle.format.specs.Image.{pageNumber, pageCount, rootCount, nextT, outLinkCount};
+ghost use Rattle.format.specs.Image.{pageB, pageNumber, pageCount, rootCount, nextT, outLinkCount};
 ghost use Rattle.format.specs.Question.{outLinksDue};
-ghost use Rattle.query.specs.Page.{Ready, BandRead, PageRead, LastPage, headAt, thirdIn, fourthIn, nodesIn};
+ghost use Rattle.query.specs.Page.{Ready, BandRead, HeadRead, PageRead, LastPage, headAt};
 use format::Root;
 use nodes::Words;
 use nodes::gather;
-use nodes::on_bits_before;
+use nodes::on_bits;
 
 // A band: its number, from 1, the number of its first page, how many pages and roots it has.
 pub struct Band {
@@ -30,6 +30,18 @@ pub struct Page {
     pub roots: usize,
     pub nodes: usize,
     pub words: Words,
+}
+
+// A page without its nodes: its band's number, its index in the band, its number in the image, T, B, how many roots and out-links
+// it has. The jobs that open each page once gather its nodes where they read them: a page with its words is a large copy.
+pub struct PageHead {
+    pub band: usize,
+    pub index: usize,
+    pub number: usize,
+    pub t: usize,
+    pub b: usize,
+    pub roots: usize,
+    pub links: usize,
 }
 
 // Two bytes as a number, the higher first.
@@ -97,46 +109,81 @@ fn next_t(image: &[u8], band: Band, index: usize) -> usize
     band.roots
 }
 
-// The nodes of a page of `roots` roots: each level has as many as the level above has on bits.
-fn count_nodes<'a>(word: &'a [u64; 9], before: &'a [u16; 9], roots: usize) -> usize
-    requires { ⌜ (thirdIn (now word) (now before) roots ≤ 240) × (fourthIn (now word) (now before) roots ≤ 240) ⌝ }
-    ensures { λ r. ⌜ r ≡ nodesIn (now (word .entry)) (now (before .entry)) roots ⌝ }
+// The B of the page after page `index`, or after the last page the out-links that the band must have.
+fn next_b(image: &[u8], band: Band, index: usize) -> usize
+    requires { ⌜ (Ready (now image)) × (BandRead (now image) band) × (index < pageCount (now image) (band .number)) ⌝ }
+    ensures { λ r. ⌜ r ≡ pageB (now (image .entry)) (band .number) index + outLinkCount (now (image .entry)) (band .number) index ⌝ }
 {
-    let third = roots + on_bits_before(word, before, roots);
-    let fourth = roots + on_bits_before(word, before, third);
-    roots + on_bits_before(word, before, fourth)
+    if index + 1 < band.pages {
+        return head_at(image, band, 2, index + 1);
+    }
+    if band.number < 8 {
+        return number_at(image, 10 + 4 * band.number);
+    }
+    number_at(image, 6)
 }
 
-// Page `index` of the band.
-fn page_at(image: &[u8], band: Band, index: usize) -> Page
+// The head of page `index` of the band.
+fn page_head(image: &[u8], band: Band, index: usize) -> PageHead
     requires { ⌜ (Ready (now image)) × (BandRead (now image) band) × (index < pageCount (now image) (band .number)) ⌝ }
-    ensures { λ r. ⌜ (PageRead (now (image .entry)) r) × (r .band ≡ band .number) × (r .index ≡ index) ⌝ }
+    ensures { λ r. ⌜ (HeadRead (now (image .entry)) r) × (r .band ≡ band .number) × (r .index ≡ index) ⌝ }
 {
-    let number = band.first + index;
     let t = head_at(image, band, 0, index);
     let b = head_at(image, band, 2, index);
-    let roots = next_t(image, band, index) - t;
-    let words = gather(image, 64 * number);
-    let nodes = count_nodes(&words.word, &words.before, roots);
-    Page {
+    PageHead {
         band: band.number,
         index,
-        number,
+        number: band.first + index,
         t,
         b,
-        roots,
-        nodes,
-        words,
+        roots: next_t(image, band, index) - t,
+        links: next_b(image, band, index) - b,
     }
 }
 
-// The page of a band that has the root.
-pub fn page_of_root(image: &[u8], band: Band, root: Root) -> Page
+// The head of the page of a band that has the root.
+pub fn head_of_root(image: &[u8], band: Band, root: Root) -> PageHead
     requires { ⌜ (Ready (now image)) × (BandRead (now image) band) × (root .0 < rootCount (now image) (band .number)) ⌝ }
-    ensures { λ r. ⌜ (PageRead (now (image .entry)) r) × (r .band ≡ band .number) × (r .t ≤ root .0) × (root .0 < r .t + r .roots) ⌝ }
+    ensures { λ r. ⌜ (HeadRead (now (image .entry)) r) × (r .band ≡ band .number) × (r .t ≤ root .0) × (root .0 < r .t + r .roots) ⌝ }
 {
     let index = last_page(image, band, 0, root.0);
-    page_at(image, band, index)
+    page_head(image, band, index)
+}
+
+// The head of the page of a band that has the out-link to root `below` of the band below, or out of band 8 to the key of that rank.
+pub fn head_above(image: &[u8], band: Band, below: Root) -> PageHead
+    requires { ⌜ (Ready (now image)) × (BandRead (now image) band) × (below .0 < outLinksDue (now image) (band .number)) ⌝ }
+    ensures { λ r. ⌜ (HeadRead (now (image .entry)) r) × (r .band ≡ band .number) × (r .b ≤ below .0) × (below .0 < r .b + r .links) ⌝ }
+{
+    let index = last_page(image, band, 2, below.0);
+    page_head(image, band, index)
+}
+
+// The nodes of a page, whose on bits lead to the nodes below the roots and out of the page.
+pub fn node_count(head: PageHead, before: &[u16; 9]) -> usize
+    requires { ⌜ (head .roots ≤ 60) × (head .links ≤ head .roots + getD (now before) 8 0) ⌝ }
+    ensures { λ r. ⌜ r ≡ head .roots + getD (now (before .entry)) 8 0 - head .links ⌝ }
+{
+    head.roots + on_bits(before) - head.links
+}
+
+// The page of a head.
+fn page_of(image: &[u8], head: PageHead) -> Page
+    requires { ⌜ (Ready (now image)) × (HeadRead (now image) head) ⌝ }
+    ensures { λ r. ⌜ (PageRead (now (image .entry)) r) × (r .band ≡ head .band) × (r .t ≡ head .t) × (r .roots ≡ head .roots) ⌝ }
+{
+    let words = gather(image, 64 * head.number);
+    let nodes = node_count(head, &words.before);
+    Page {
+        band: head.band,
+        index: head.index,
+        number: head.number,
+        t: head.t,
+        b: head.b,
+        roots: head.roots,
+        nodes,
+        words,
+    }
 }
 
 // The page of a band that has the root, tried first at index `hint`: a walk often stays in a page.
@@ -145,20 +192,12 @@ pub fn page_near(image: &[u8], band: Band, root: Root, hint: usize) -> Page
     ensures { λ r. ⌜ (PageRead (now (image .entry)) r) × (r .band ≡ band .number) × (r .t ≤ root .0) × (root .0 < r .t + r .roots) ⌝ }
 {
     if hint < band.pages {
-        if head_at(image, band, 0, hint) <= root.0 {
-            if root.0 < next_t(image, band, hint) {
-                return page_at(image, band, hint);
+        let head = page_head(image, band, hint);
+        if head.t <= root.0 {
+            if root.0 < head.t + head.roots {
+                return page_of(image, head);
             }
         }
     }
-    page_of_root(image, band, root)
-}
-
-// The page of a band that has the out-link to root `below` of the band below, or out of band 8 to the key of that rank.
-pub fn page_above(image: &[u8], band: Band, below: Root) -> Page
-    requires { ⌜ (Ready (now image)) × (BandRead (now image) band) × (below .0 < outLinksDue (now image) (band .number)) ⌝ }
-    ensures { λ r. ⌜ (PageRead (now (image .entry)) r) × (r .band ≡ band .number) × (r .b ≤ below .0) × (below .0 < r .b + outLinkCount (now (image .entry)) (r .band) (r .index)) ⌝ }
-{
-    let index = last_page(image, band, 2, below.0);
-    page_at(image, band, index)
+    page_of(image, head_of_root(image, band, root))
 }

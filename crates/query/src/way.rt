@@ -3,16 +3,18 @@ ghost use mathlib.Core.Path.{_≡_};
 ghost use Prim.Native.Nat.{_+_, _-_, _*_, _/_, _^_, _≤_, _<_};
 ghost use Rattle.format.proofs.Descent.{bit};
 ghost use Rattle.format.proofs.Lookup.{keyBit};
-ghost use Rattle.query.specs.Page.{Ready, PageRead, childIn};
+ghost use Rattle.query.specs.Page.{Ready, HeadRead, childIn};
 ghost use Rattle.query.specs.Way.{AtPrefix, WayRight, FoundRight};
 use crate::Found;
 use crate::Presence;
-use crate::page::Page;
+use crate::page::PageHead;
 use crate::page::band_at;
-use crate::page::page_of_root;
+use crate::page::head_of_root;
+use crate::page::node_count;
 use format::OutLink;
 use format::Root;
 use format::cross;
+use nodes::gather;
 use nodes::node_at;
 use nodes::on_bits_before;
 
@@ -59,22 +61,23 @@ pub fn child_place<'a>(
 }
 
 // Follows a key's four bits in a page from its root.
-fn follow(image: &[u8], page: Page, root: Root, key: u32) -> Way
-    requires { ⌜ (Ready (now image)) × (PageRead (now image) page) × (page .t ≤ root .0) × (root .0 < page .t + page .roots) × (AtPrefix (now image) (4 * (page .band - 1)) (root .0) (key / 2 ^ (36 - 4 * page .band))) ⌝ }
-    ensures { λ r. ⌜ WayRight (now (image .entry)) (page .band) key r ⌝ }
+fn follow(image: &[u8], head: PageHead, root: Root, key: u32) -> Way
+    requires { ⌜ (Ready (now image)) × (HeadRead (now image) head) × (head .t ≤ root .0) × (root .0 < head .t + head .roots) × (AtPrefix (now image) (4 * (head .band - 1)) (root .0) (key / 2 ^ (36 - 4 * head .band))) ⌝ }
+    ensures { λ r. ⌜ WayRight (now (image .entry)) (head .band) key r ⌝ }
 {
-    let words = page.words;
-    let mut place = root.0 - page.t;
+    let words = gather(image, 64 * head.number);
+    let nodes = node_count(head, &words.before);
+    let mut place = root.0 - head.t;
     let mut level = 0;
     while level < 4 {
-        let side = key_bit(key, 4 * (page.band - 1) + level);
+        let side = key_bit(key, 4 * (head.band - 1) + level);
         if bit_of(node_at(&words.word, place), side) == 0 {
             return Way::Off;
         }
-        place = child_place(&words.word, &words.before, page.roots, place, side);
+        place = child_place(&words.word, &words.before, head.roots, place, side);
         level += 1;
     }
-    Way::Out(OutLink(page.b + (place - page.nodes)))
+    Way::Out(OutLink(head.b + (place - nodes)))
 }
 
 // The rank of a key and the page numbers on its path.
@@ -89,15 +92,15 @@ pub fn path(image: &[u8], key: u32) -> Found
     while number <= 8 {
         let band = band_at(image, number, first);
         let root = cross(link);
-        let page = page_of_root(image, band, root);
-        let way = follow(image, page, root, key);
+        let head = head_of_root(image, band, root);
+        let way = follow(image, head, root, key);
         let Way::Out(next) = way else {
             return Found {
                 answer: Presence::Absent,
                 pages: [0u32; 8],
             };
         };
-        pages[number - 1] = page.number as u32;
+        pages[number - 1] = head.number as u32;
         link = next;
         first += band.pages;
         number += 1;

@@ -32,15 +32,15 @@ band-at-requires c κs =
     let h = c .before .loop-test .taken in
     (s .ready, h, s .to, ranked-first s h (c .number-at .ensures .0) .1)
 
-page-above-requires : tie.Need-page-above-requires Inv-loop μ-loop
-page-above-requires c κs =
+head-above-requires : tie.Need-head-above-requires Inv-loop μ-loop
+head-above-requires c κs =
     let s = c .before .before .before .loop .inv in
     (s .ready, c .band-at .ensures .0, ranked-link s (c .before .before .loop-test .taken) (c .band-at .ensures .1))
 
 climb-requires : tie.Need-climb-requires Inv-loop μ-loop
 climb-requires c κs =
     let s = c .before .before .before .before .loop .inv in
-    let p = c .page-above .ensures in
+    let p = c .head-above .ensures in
     (s .ready, p .0, ranked-small s (c .before .before .before .loop-test .taken), p .2, p .3)
 
 -- the sums of a turn
@@ -64,7 +64,7 @@ unfolding pageCount
 loop-again c =
     let p = c .before .before .before in
     let l = p .before .before .before in
-    rw (p .before .before .number-at .ensures .0) (ranked-next (l .before .loop .inv) (l .loop-test .taken) (p .page-above .ensures .1 ∙ p .before .band-at .ensures .1) (c .before .before .climb .ensures))
+    rw (p .before .before .number-at .ensures .0) (ranked-next (l .before .loop .inv) (l .loop-test .taken) (p .head-above .ensures .1 ∙ p .before .band-at .ensures .1) (c .before .before .climb .ensures))
 
 pub key-at-spec : {M : Type 1} → statement M
 key-at-spec =
@@ -79,7 +79,7 @@ key-at-spec =
     number-at-requires
     sub-first
     band-at-requires
-    page-above-requires
+    head-above-requires
     climb-requires
     (λ c. search needs)
     mul-key

@@ -6,6 +6,7 @@ use borrow.Author.Needs.{needs}
 use Rattle.format.specs.Image.{rootCount}
 use Rattle.query.specs.Way.{WayRight}
 use Rattle.query.proofs.Pages.{few-pages}
+use Rattle.query.proofs.Heads.{opened-read}
 use Rattle.query.proofs.Path.{Path, path-start, path-root, path-at, path-next, way-out, path-end, path-rank, first-small, page-number-small}
 use Rattle.query.proofs.way.path.Statement.{statement}
 use Rattle.query.proofs.way.path.Tie as tie
@@ -22,8 +23,8 @@ loop-holds c = path-start (c .before .pre) (c .before .fits .key .fits)
 band-at-requires : tie.Need-band-at-requires Inv-loop μ-loop
 band-at-requires c κs = let s = c .before .loop .inv in (s .ready, s .from, c .loop-test .taken, s .first-is)
 
-page-of-root-requires : tie.Need-page-of-root-requires Inv-loop μ-loop
-page-of-root-requires c κs =
+head-of-root-requires : tie.Need-head-of-root-requires Inv-loop μ-loop
+head-of-root-requires c κs =
     let s = c .before .before .before .loop .inv in
     let b = c .before .band-at .ensures in
     let n = path-root s (c .before .before .loop-test .taken) in
@@ -33,7 +34,7 @@ page-of-root-requires c κs =
 follow-requires : tie.Need-follow-requires Inv-loop μ-loop
 follow-requires c κs =
     let s = c .before .before .before .before .loop .inv in
-    let p = c .page-of-root .ensures in
+    let p = c .head-of-root .ensures in
     (s .ready, p .0, p .2, p .3, path-at s (ap (λ x. x .0) (c .before .cross .ensures)) (p .1 ∙ c .before .before .band-at .ensures .1))
 
 returns : tie.Need-returns Inv-loop μ-loop
@@ -43,8 +44,8 @@ returns c =
 
 cast-pages : tie.Need-cast-pages Inv-loop μ-loop
 cast-pages c =
-    let p = c .before .before .before .before .before .page-of-root .ensures .0 in
-    record { fits = omega (arith, p .number, page-number-small (c .before .before .before .before .before .before .before .before .before .loop .inv .ready) (c .before .before .before .before .before .page-of-root .result .band) (c .before .before .before .before .before .page-of-root .result .index) (p .to) (p .in-band)) }
+    let p = c .before .before .before .before .before .head-of-root .ensures .0 in
+    record { fits = omega (arith, p .number, page-number-small (c .before .before .before .before .before .before .before .before .before .loop .inv .ready) (c .before .before .before .before .before .head-of-root .result .band) (c .before .before .before .before .before .head-of-root .result .index) (p .to) (p .in-band)) }
 
 add-first : tie.Need-add-first Inv-loop μ-loop
 add-first c =
@@ -56,9 +57,9 @@ loop-again : tie.Need-loop-again Inv-loop μ-loop
 loop-again c =
     let at = c .before .before .before in
     let s = at .before .before .before .before .before .before .before .loop .inv in
-    let p = at .before .before .before .page-of-root .ensures in
+    let p = at .before .before .before .head-of-root .ensures in
     let b = at .before .before .before .before .before .band-at .ensures in
-    path-next s (at .before .before .before .before .before .before .loop-test .taken) (b .0) (b .1) (p .0) (p .1 ∙ b .1)
+    path-next s (at .before .before .before .before .before .before .loop-test .taken) (b .0) (b .1) (opened-read (p .0)) (p .1 ∙ b .1)
     (ap (λ x. x .0) (at .before .before .before .before .cross .ensures)) (p .2) (p .3) (way-out (at .before .before .before .before .before .before .before .before .before .args .key) (at .before .before .follow .ensures) (at .way .given .1) (p .1 ∙ b .1))
 
 pub path-spec : {M : Type 1} → statement M
@@ -70,7 +71,7 @@ path-spec =
     loop-holds
     band-at-requires
     (λ c κs. search needs)
-    page-of-root-requires
+    head-of-root-requires
     follow-requires
     (λ c. search needs)
     (λ c. search needs)
