@@ -30,8 +30,8 @@ pub record Counting (q keys : List ℕ) (x roots : ℕ) (packing : Packing) (siz
   pub last-read : x ≡ getD q (i - 1) 0
   pub few : length q ≤ 4096
   pub same-length : length keys ≡ length q
-  pub unread : drop i keys ≡ drop i q
   pub roots-few : roots ≤ i
+  pub kept : drop roots keys ≡ drop roots q
   pub roots-count : roots ≡ length (heads 4 (part 0 i q))
   pub lifted : take roots keys ≡ heads 4 (part 0 i q)
 
@@ -59,8 +59,8 @@ count-start q p some =
       last-read = refl;
       few = p .few;
       same-length = length-set q 0 (getD q 0 0 / 16);
-      unread = drop-set-lt 1 q 0 (getD q 0 0 / 16) (omega arith);
       roots-few = omega arith;
+      kept = drop-set-lt 1 q 0 (getD q 0 0 / 16) (omega arith);
       roots-count = sym (ap length first);
       lifted = take-suc-set q 0 (getD q 0 0 / 16) some ∙ sym first;
     }
@@ -69,14 +69,19 @@ module _ (q keys : List ℕ) (x roots : ℕ) (packing : Packing) (size i : ℕ) 
   lt : i < length q
   lt = omega (arith, c .same-length)
 
+  unread : drop i keys ≡ drop i q
+  unread =
+      let e : roots + (i - roots) ≡ i = omega (arith, c .roots-few) in
+      ap (λ (j : ℕ). drop j keys) (sym e) ∙ sym (drop-drop (i - roots) roots keys) ∙ ap (drop (i - roots)) (c .kept) ∙ drop-drop (i - roots) roots q ∙ ap (λ (j : ℕ). drop j q) e
+
   -- the prefix that is read
   pub read-is : getD keys i 0 ≡ getD q i 0
   read-is =
       let z : i + 0 ≡ i = omega arith in
-      ap (λ (j : ℕ). getD keys j 0) (sym z) ∙ sym (getD-drop i keys 0 0) ∙ ap (λ (l : List ℕ). getD l 0 0) (c .unread) ∙ getD-drop i q 0 0 ∙ ap (λ (j : ℕ). getD q j 0) z
+      ap (λ (j : ℕ). getD keys j 0) (sym z) ∙ sym (getD-drop i keys 0 0) ∙ ap (λ (l : List ℕ). getD l 0 0) unread ∙ getD-drop i q 0 0 ∙ ap (λ (j : ℕ). getD q j 0) z
 
-  drop-more : (l m : List ℕ) → drop i l ≡ drop i m → drop (i + 1) l ≡ drop (i + 1) m
-  drop-more l m e = sym (drop-drop 1 i l) ∙ ap (drop 1) e ∙ drop-drop 1 i m
+  drop-more : drop (roots + 1) keys ≡ drop (roots + 1) q
+  drop-more = sym (drop-drop 1 roots keys) ∙ ap (drop 1) (c .kept) ∙ drop-drop 1 roots q
 
   run-read : Run (getD q 0 0) (getD q (i - 1) 0) (part 0 i q)
   run-read = run-of q 0 i (c .scan .ordered) (omega (arith, c .scan .open-some)) (omega arith)
@@ -104,8 +109,8 @@ module _ (q keys : List ℕ) (x roots : ℕ) (packing : Packing) (size i : ℕ) 
           last-read = read-is ∙ ap (λ (j : ℕ). getD q j 0) (sym e);
           few = c .few;
           same-length = c .same-length;
-          unread = drop-more keys q (c .unread);
           roots-few = omega (arith, c .roots-few);
+          kept = c .kept;
           roots-count = c .roots-count ∙ ap length (sym same-heads);
           lifted = c .lifted ∙ sym same-heads;
         }
@@ -164,8 +169,8 @@ module _ (q keys : List ℕ) (x roots : ℕ) (packing : Packing) (size i : ℕ) 
           last-read = read-is ∙ ap (λ (j : ℕ). getD q j 0) (sym e);
           few = c .few;
           same-length = length-set keys roots (getD keys i 0 / 16) ∙ c .same-length;
-          unread = drop-set-lt (i + 1) keys roots (getD keys i 0 / 16) (omega (arith, c .roots-few)) ∙ drop-more keys q (c .unread);
           roots-few = omega (arith, c .roots-few);
+          kept = drop-set-lt (roots + 1) keys roots (getD keys i 0 / 16) (omega arith) ∙ drop-more;
           roots-count = let n = ap length more-heads in omega (arith, n, length-append (heads 4 (part 0 i q)) (getD q i 0 / 16 ∷ []), c .roots-count);
           lifted = ap (λ (n : ℕ). take n (set keys roots (getD keys i 0 / 16))) (add-one roots)
               ∙ take-suc-set keys roots (getD keys i 0 / 16) (omega (arith, c .roots-few, c .same-length))
@@ -189,6 +194,7 @@ module _ (q keys : List ℕ) (x roots : ℕ) (packing : Packing) (size i : ℕ) 
         pages-few = omega (arith, n .1, c .scan .within);
         roots-few = omega (arith, c .roots-few, c .scan .within);
         lifted = c .lifted ∙ ap (heads 4) all-read ∙ sym (roots-is q);
+        kept = c .kept;
       }
     where
       none-left : length (pagesOf (bandAbove (drop i q))) ≡ 0
@@ -218,6 +224,7 @@ count-none [] e =
       pages-few = omega arith;
       roots-few = omega arith;
       lifted = refl;
+      kept = refl;
     }
 count-none (x ∷ q) e = absurd (omega arith)
 

@@ -1,14 +1,14 @@
 -- The writer's questions and its image, in the terms of the two passes.
 -- Assumes nothing.
 use mathlib.Core.Path.{_≡_, refl, sym, ap, ap₂, _∙_}
-use mathlib.Core.Bool.{true, false}
+use mathlib.Core.Bool.{false}
 use mathlib.Core.Option.{Option, none, some}
-use mathlib.Core.List.{List, [], _∷_, _++_, append-assoc, flatMap, map}
+use mathlib.Core.List.{List, [], _∷_, _++_, append-assoc, append-nil, flatMap, map}
 use Prim.Native.Nat.{ℕ, suc, _+_, _*_, _-_, _^_, _≤_, _<_}
 use native.Mathlib.Omega.{arith}
 use borrow.Author.Tests.{le-leb, lt-leb}
 use lib.ListN.{length, getD, take, drop, replicate, length-append, take-append-drop}
-use lib.Seq.{take-at, drop-at, drop-drop}
+use lib.Seq.{take-at, drop-at, drop-drop, drop-length, length-take-le}
 use Rattle.format.specs.Seq.{total}
 use Rattle.format.specs.Page.{twoBytes}
 use Rattle.format.specs.Question.{Outcome, refused, returns, outcome, settle, firstNo, filled}
@@ -22,6 +22,7 @@ use Rattle.writer.specs.declared.Plan.{Plan}
 use Rattle.writer.specs.Writer.{WrittenKeys}
 use Rattle.writer.specs.Run.{Prefixes}
 use Rattle.writer.specs.Image.{countsOf, pagesIn, headerOf, pagesFrom, bytesOfBand, bytesOfBands, Planned, ImageRoom}
+use Rattle.writer.specs.Planning.{usedUp, FirstPass, KeysPlanned, unordered, passed}
 use Rattle.writer.proofs.Header.{length-two}
 use Rattle.writer.proofs.Planning.{countsIn, pageCount, bands-up}
 use Rattle.writer.proofs.Writing.{length-up, length-counts, length-band}
@@ -93,20 +94,17 @@ not-ascending keys buffer few e = refused-by keys buffer 15 no
     no = unfold listQuestions firstNo in rw (le-leb (length keys) 4096 few, e) refl
 
 -- 14 and 15 got a yes; 16 gets one too
-module _ (keys buffer : List ℕ) (few : length keys ≤ 4096) (ordered : ascending keys ≡ true) (fits : Fits 32 keys) where
-  pub keys-prefixes : Prefixes keys
-  keys-prefixes = record { few = few; ordered = ordered }
-
+module _ (keys buffer : List ℕ) (listed : Prefixes keys) (fits : Fits 32 keys) where
   yes-all : firstNo (listQuestions keys) ≡ none
-  yes-all = list-writable keys (of-ascending keys ordered) fits few
+  yes-all = list-writable keys (of-ascending keys (listed .ordered)) fits (listed .few)
 
-  pub no-room : length buffer < 64 + 64 * pagesIn keys → WrittenKeys keys buffer (Refused 17) buffer
+  no-room : length buffer < 64 + 64 * pagesIn keys → WrittenKeys keys buffer (Refused 17) buffer
   no-room h = refused-by keys buffer 17 (after-yes (listQuestions keys) (roomQuestion keys buffer ∷ []) yes-all ∙ no)
     where
       no : firstNo (roomQuestion keys buffer ∷ []) ≡ some 17
       no = unfold roomQuestion firstNo in rw (lt-leb (length (imageOf keys)) (length buffer) (omega (arith, image-length keys))) refl
 
-  pub written : (out₁ out₂ : List ℕ) → 64 + 64 * pagesIn keys ≤ length buffer → out₁ ≡ headerOf (length keys) (countsOf keys) ++ drop 64 buffer → out₂ ≡ pagesFrom out₁ 1 (bytesOfBands keys)
+  written : (out₁ out₂ : List ℕ) → 64 + 64 * pagesIn keys ≤ length buffer → out₁ ≡ headerOf (length keys) (countsOf keys) ++ drop 64 buffer → out₂ ≡ pagesFrom out₁ 1 (bytesOfBands keys)
       → WrittenKeys keys buffer (Length (64 + 64 * pagesIn keys)) out₂
   unfolding bufferAfterWriteKeys
   written out₁ out₂ h e₁ e₂ =
@@ -116,31 +114,47 @@ module _ (keys buffer : List ℕ) (few : length keys ≤ 4096) (ordered : ascend
         bytes = image-filled keys buffer out₁ out₂ e₁ e₂ ∙ sym (ap (λ (m : Outcome ℕ). filled m (imageOf keys) buffer) o ∙ (unfold filled in refl));
       }
 
--- ---- the keys in their places
+-- ---- by a plan
 
 pub fits-of : (l : List ℕ) → ((i : ℕ) → getD l i 0 < 2 ^ 32) → Fits 32 l
 fits-of [] h = tt
 fits-of (x ∷ l) h = (h 0, fits-of l (λ i. h (suc i)))
 
-pub loaded-part : (keys l m : List ℕ) → m ≡ keys ++ drop (length keys) l → take (length keys - 0) m ≡ keys
-loaded-part keys l m e = ap (take (length keys - 0)) e ∙ take-at keys (drop (length keys) l) (length keys - 0) (omega arith)
-
--- a part that comes back as long as it was
-pub back-count : (ys xs : List ℕ) (n : ℕ) → length ys ≡ length (take n xs) → length (ys ++ drop n xs) ≡ length xs
-back-count ys xs n e = omega (arith, length-append ys (drop n xs), length-append (take n xs) (drop n xs), ap length (take-append-drop n xs))
-
-module _ (keys buffer : List ℕ) (few : length keys ≤ 4096) (ordered : ascending keys ≡ true) (fits : Fits 32 keys) (part : List ℕ) (plan : Plan) (is : part ≡ keys) (p′ : Planned part plan) where
-  p : Planned keys plan
-  p = rw is at p′
-
+module _ (keys buffer : List ℕ) (plan : Plan) (g : Prefixes keys × Planned keys plan) (fits : Fits 32 keys) where
   pub plan-no-room : length buffer < 64 + 64 * plan .pages → WrittenKeys keys buffer (Refused 17) buffer
-  plan-no-room h = no-room keys buffer few ordered fits (rw (← p .pages-are) h)
+  plan-no-room h = no-room keys buffer (g .0) fits (rw (← g .1 .pages-are) h)
 
-  module _ (room : 64 + 64 * plan .pages ≤ length buffer) (out₁ part₂ : List ℕ) (is₂ : part₂ ≡ keys) where
-    pub plan-room : length out₁ ≡ length buffer → ImageRoom part₂ out₁ plan
-    plan-room same = rw is₂ (record { listed = keys-prefixes keys buffer few ordered fits; planned = p; room = omega arith })
+  module _ (room : 64 + 64 * plan .pages ≤ length buffer) (out₁ : List ℕ) where
+    pub plan-room : length out₁ ≡ length buffer → ImageRoom keys out₁ plan
+    plan-room same = record { listed = g .0; planned = g .1; room = omega arith }
 
-    pub plan-written : (out₂ : List ℕ) → out₁ ≡ headerOf (length keys) (plan .counts) ++ drop 64 buffer → out₂ ≡ pagesFrom out₁ 1 (bytesOfBands part₂)
-        → WrittenKeys keys buffer (Length (64 + 64 * plan .pages)) out₂
+    pub plan-written : (out₂ : List ℕ) → out₁ ≡ headerOf (length keys) (plan .counts) ++ drop 64 buffer → out₂ ≡ pagesFrom out₁ 1 (bytesOfBands keys) → WrittenKeys keys buffer (Length (64 + 64 * plan .pages)) out₂
     plan-written out₂ e₁ e₂ =
-        rw (p .pages-are) (written keys buffer few ordered fits out₁ out₂ (rw (p .pages-are) at room) (e₁ ∙ ap (λ (c : List ℕ). headerOf (length keys) c ++ drop 64 buffer) (p .counts-are)) (e₂ ∙ ap (λ (k : List ℕ). pagesFrom out₁ 1 (bytesOfBands k)) is₂))
+        rw (g .1 .pages-are) (written keys buffer (g .0) fits out₁ out₂ (rw (g .1 .pages-are) at room) (e₁ ∙ ap (λ (c : List ℕ). headerOf (length keys) c ++ drop 64 buffer) (g .1 .counts-are)) e₂)
+
+-- the question that got a no
+pub plan-refused : (keys after buffer : List ℕ) (plan : Plan) → length keys ≤ 4096 → KeysPlanned keys after plan → 0 < plan .refusal → WrittenKeys keys buffer (Refused (plan .refusal)) buffer
+plan-refused keys after buffer plan few (unordered e r) h = rw (r .refusal-is) (not-ascending keys buffer few e)
+plan-refused keys after buffer plan few (passed e p) h = absurd (omega (arith, p .no-refusal))
+
+-- a plan for keys, after the first pass
+pub record Accepted (keys after : List ℕ) (plan : Plan) : Type 0 where
+  pub for-keys : Prefixes keys × Planned keys plan
+  pub pass : FirstPass keys after plan
+
+pub plan-accepted : (keys after : List ℕ) (plan : Plan) → length keys ≤ 4096 → KeysPlanned keys after plan → plan .refusal ≤ 0 → Accepted keys after plan
+plan-accepted keys after plan few (unordered e r) h = absurd (omega (arith, r .refusal-is))
+plan-accepted keys after plan few (passed e p) h = record { for-keys = (record { few = few; ordered = e }, p .planned); pass = p }
+
+-- ---- the keys in their places
+
+-- all of them
+pub all-loaded : (keys places m : List ℕ) → length places ≡ length keys → m ≡ keys ++ drop (length keys) places → m ≡ keys
+all-loaded keys places m same e = e ∙ ap (λ (n : ℕ). keys ++ drop n places) (sym same) ∙ ap (keys ++_) (drop-length places) ∙ append-nil keys
+
+-- those that are used up, put there again
+pub used-loaded : (keys after m : List ℕ) (plan : Plan) (used : ℕ) → used ≡ usedUp plan → FirstPass keys after plan → m ≡ take (used - 0) keys ++ drop (length (take (used - 0) keys)) after → m ≡ keys
+used-loaded keys after m plan used u p e =
+    let z : used - 0 ≡ usedUp plan = omega (arith, u) in
+    let l : length (take (used - 0) keys) ≡ usedUp plan = ap (λ (n : ℕ). length (take n keys)) z ∙ length-take-le (usedUp plan) keys (p .used-few) in
+    e ∙ ap₂ (λ (n k : ℕ). take n keys ++ drop k after) z l ∙ ap (take (usedUp plan) keys ++_) (p .kept) ∙ take-append-drop (usedUp plan) keys

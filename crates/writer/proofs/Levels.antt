@@ -139,6 +139,10 @@ module _ (page₀ q : List ℕ) (from end : ℕ) (page keys : List ℕ) (i y fir
       let e : suc (i - 1) ≡ i = omega arith in
       drop-cons q (i - 1) 0 (omega (arith, s .some)) ∙ ap₂ _∷_ (sym x-is) (ap (λ (j : ℕ). drop j q) e ∙ read-rest)
 
+  -- the prefix is below the one after it
+  pub read-above : getD keys (i - 1) 0 < y
+  read-above = (rw read-more at (from-drop q from (i - 1) (omega arith) (of-ascending (drop from q) (s .given .ordered)))) .0
+
   less-unread : take (i - 1) keys ≡ take (i - 1) q
   less-unread = sym (take-take (i - 1) i keys (omega arith)) ∙ ap (take (i - 1)) (s .unread) ∙ take-take (i - 1) i q (omega arith)
 

@@ -9,6 +9,7 @@ pub mod Nodes
 pub mod Filling
 pub mod Fronts
 pub mod Levels
+pub mod Marks
 pub mod Pages
 pub mod Filled
 pub mod Band
@@ -17,4 +18,5 @@ pub mod Planning
 pub mod Writing
 pub mod Job
 pub mod Weaving
+pub mod Again
 pub mod Local

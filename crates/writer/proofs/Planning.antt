@@ -4,8 +4,9 @@ use mathlib.Core.Path.{_≡_, refl, sym, ap, ap₂, _∙_}
 use mathlib.Core.List.{List, [], _∷_, _++_, append-assoc, append-nil, map, flatMap}
 use Prim.Native.Nat.{ℕ, zero, suc, _+_, _*_, _-_, _≤_, _<_}
 use native.Mathlib.Omega.{arith}
-use lib.ListN.{length, take, drop, set, replicate, length-append, length-drop}
-use lib.Seq.{take-all, take-append-le, length-take-le}
+use native.Mathlib.Decide.{ℕ-discrete}
+use lib.ListN.{length, getD, take, drop, set, replicate, length-append, length-drop, length-set, take-append-drop}
+use lib.Seq.{take-all, take-append-le, drop-append-le, drop-drop, length-take-le, getD-set-same, getD-set-other}
 use Rattle.format.specs.Seq.{total, numbersFrom}
 use Rattle.format.specs.Trie.{parents, levelsOver}
 use Rattle.format.specs.Image.{bands}
@@ -15,7 +16,9 @@ use Rattle.format.proofs.RunHeads.{heads}
 use Rattle.format.proofs.Runs.{bandOver, bands-of-keys}
 use Rattle.writer.specs.declared.run.BandCounts.{BandCounts}
 use Rattle.writer.specs.Run.{Prefixes, BandCounted, bandAbove, rootsAbove}
-use Rattle.writer.specs.Image.{countsOf, pagesIn, Planned}
+use Rattle.writer.specs.Image.{countsOf, pagesIn}
+use Rattle.writer.specs.Planning.{usedUp, FirstPass}
+use Rattle.writer.proofs.Stores.{length-zeros}
 use Rattle.writer.proofs.Ascending.{to-ascending}
 use Rattle.writer.proofs.Runs.{rest-run}
 use Rattle.writer.proofs.Bands.{roots-is, heads-few}
@@ -46,6 +49,13 @@ countsIn band = length (pagesOf band) ∷ rootsIn band ∷ []
 abbrev pub pageCount : List (List ℕ) → ℕ
 pageCount band = length (pagesOf band)
 
+-- once the last band is counted, the keys after its roots are as they were, and the first n are among those before
+pub record Kept (keys₀ keys counts : List ℕ) (n b : ℕ) : Type 0 where
+  pub whole : b ≡ 8 → keys ≡ keys₀
+  pub few : b < 8 → n ≤ getD counts 15 0
+  pub some : b < 8 → getD counts 15 0 ≤ length keys₀
+  pub rest : b < 8 → drop (getD counts 15 0) keys ≡ drop (getD counts 15 0) keys₀
+
 -- the bands above the first n of keys, b of them, are left
 pub record Planning (keys₀ keys counts : List ℕ) (pages n b : ℕ) : Type 0 where
   pub listed : Prefixes (take n keys)
@@ -56,6 +66,7 @@ pub record Planning (keys₀ keys counts : List ℕ) (pages n b : ℕ) : Type 0 
   pub counts-are : counts ≡ replicate (2 * b) 0 ++ flatMap countsIn done
   pub pages-are : pages ≡ total (map pageCount done)
   pub pages-few : pages + 4096 * b ≤ 32768
+  pub kept : Kept keys₀ keys counts n b
 
 pub planning-start : (keys : List ℕ) → Prefixes keys → Planning keys keys (replicate 16 0) 0 (length keys) 8
 unfolding flatMap total
@@ -70,6 +81,7 @@ planning-start keys p =
       counts-are = refl;
       pages-are = refl;
       pages-few = omega arith;
+      kept = record { whole = λ e. refl; few = λ h. absurd (omega arith); some = λ h. absurd (omega arith); rest = λ h. absurd (omega arith) };
     }
 
 -- two counts in place of two zeros
@@ -98,6 +110,57 @@ module _ (keys : List ℕ) (n roots : ℕ) (after : List ℕ) (within : n ≤ le
   pub back-length : length (after ++ drop (n - 0) keys) ≡ length keys
   back-length = omega (arith, length-append after (drop (n - 0) keys), part-length, length-drop (n - 0) keys)
 
+-- the band's roots take the first places, and no others
+module _ (keys₀ keys counts : List ℕ) (n b′ p roots : ℕ) (after : List ℕ) (k : Kept keys₀ keys counts n (suc b′)) (room : 2 * suc b′ ≤ length counts) (b-few : b′ < 8) (within : n ≤ length keys) (same : length keys ≡ length keys₀) (few : roots ≤ n) (all : length after ≡ n) (still : drop roots after ≡ drop roots (take (n - 0) keys)) where
+  rest-still : drop roots (after ++ drop (n - 0) keys) ≡ drop roots keys
+  rest-still =
+      let z : n - 0 ≡ n = omega arith in
+      drop-append-le roots after (drop (n - 0) keys) (omega arith)
+      ∙ ap (_++ drop (n - 0) keys) still
+      ∙ sym (drop-append-le roots (take (n - 0) keys) (drop (n - 0) keys) (omega (arith, ap (λ (m : ℕ). length (take m keys)) z, length-take-le n keys within)))
+      ∙ ap (drop roots) (take-append-drop (n - 0) keys)
+
+  after-roots : (u : ℕ) → roots ≤ u → drop u (after ++ drop (n - 0) keys) ≡ drop u keys
+  after-roots u h =
+      let e : roots + (u - roots) ≡ u = omega arith in
+      ap (λ (j : ℕ). drop j (after ++ drop (n - 0) keys)) (sym e)
+      ∙ sym (drop-drop (u - roots) roots (after ++ drop (n - 0) keys))
+      ∙ ap (drop (u - roots)) rest-still
+      ∙ drop-drop (u - roots) roots keys
+      ∙ ap (λ (j : ℕ). drop j keys) e
+
+  abbrev counts′ : List ℕ
+  counts′ = set (set counts (2 * b′) p) (2 * b′ + 1) roots
+
+  kept-next : Kept keys₀ (after ++ drop (n - 0) keys) counts′ roots b′
+  kept-next =
+      elim (ℕ-discrete b′ 7) [
+        | yes e ↦
+            let u : getD counts′ 15 0 ≡ roots = last e in
+            record {
+              whole = λ h. absurd (omega arith);
+              few = λ h. omega (arith, u);
+              some = λ h. omega (arith, u);
+              rest = λ h. rw u (rest-still ∙ ap (drop roots) (k .whole (omega arith)));
+            }
+        | no e ↦
+            let u : getD counts′ 15 0 ≡ getD counts 15 0 = other e in
+            let f : n ≤ getD counts 15 0 = k .few (omega arith) in
+            let l : getD counts 15 0 ≤ length keys₀ = k .some (omega arith) in
+            record {
+              whole = λ h. absurd (omega arith);
+              few = λ h. omega (arith, u, f);
+              some = λ h. omega (arith, u, l);
+              rest = λ h. rw u (after-roots (getD counts 15 0) (omega (arith, f)) ∙ k .rest (omega arith));
+            }
+      ]
+    where
+      last : b′ ≡ 7 → getD counts′ 15 0 ≡ roots
+      last e = rw e (getD-set-same (set counts 14 p) 15 roots 0 (omega (arith, length-set counts 14 p)))
+
+      other : (b′ ≡ 7 → ⊥) → getD counts′ 15 0 ≡ getD counts 15 0
+      other e = getD-set-other (set counts (2 * b′) p) (2 * b′ + 1) 15 roots 0 (λ h. e (omega arith)) ∙ getD-set-other counts (2 * b′) 15 p 0 (λ h. absurd (omega arith))
+
 module _ (keys₀ keys counts : List ℕ) (pages n b : ℕ) (s : Planning keys₀ keys counts pages n b) where
   pub part-prefixes : Prefixes (take (n - 0) keys)
   part-prefixes = let z : n - 0 ≡ n = omega arith in rw z (s .listed)
@@ -121,6 +184,9 @@ module _ (keys₀ keys counts : List ℕ) (pages n b : ℕ) (s : Planning keys�
       roots-is′ : r .roots ≡ rootsIn (bandAbove (take n keys))
       roots-is′ = c .roots-are ∙ ap (λ (k : ℕ). rootsIn (bandAbove (take k keys))) z
 
+      room : 2 * b ≤ length counts
+      room = omega (arith, ap length (s .counts-are), length-append (replicate (2 * b) 0) (flatMap countsIn (s .done)), length-zeros (2 * b))
+
       go : (b′ : ℕ) → b ≡ suc b′ → Planning keys₀ (after ++ drop (n - 0) keys) (set (set counts (2 * b′) (r .pages)) (2 * b′ + 1) (r .roots)) (pages + r .pages) (r .roots) b′
       go b′ e =
           record {
@@ -135,6 +201,7 @@ module _ (keys₀ keys counts : List ℕ) (pages n b : ℕ) (s : Planning keys�
                 ∙ more b′;
             pages-are = sum;
             pages-few = omega (arith, s .pages-few, c .pages-few, q-length, s .listed .few, length-take-le n keys (s .within));
+            kept = kept-next keys₀ keys counts n b′ (r .pages) (r .roots) after (rw e at (s .kept)) (rw e at room) (omega (arith, s .pages-few)) (s .within) (s .same) (omega (arith, c .roots-few, q-length)) (same ∙ q-length) (c .kept);
           }
         where
           more : (b′ : ℕ) → replicate (2 * b′) 0 ++ length (pagesOf (bandAbove (take n keys))) ∷ rootsIn (bandAbove (take n keys)) ∷ flatMap countsIn (s .done) ≡ replicate (2 * b′) 0 ++ flatMap countsIn (bandAbove (take n keys) ∷ s .done)
@@ -143,13 +210,18 @@ module _ (keys₀ keys counts : List ℕ) (pages n b : ℕ) (s : Planning keys�
           sum : pages + r .pages ≡ total (map pageCount (bandAbove (take n keys) ∷ s .done))
           sum = unfold total in omega (arith, s .pages-are, pages-is)
 
-pub planning-end : (keys₀ keys counts : List ℕ) (pages n b : ℕ) → Planning keys₀ keys counts pages n b → b ≤ 0 → Planned keys₀ (record { counts = counts; pages = pages })
-unfolding countsOf pagesIn
+pub planning-end : (keys₀ keys counts : List ℕ) (pages n b : ℕ) → Planning keys₀ keys counts pages n b → b ≤ 0 → FirstPass keys₀ keys (record { refusal = 0; counts = counts; pages = pages })
+unfolding countsOf pagesIn usedUp
 planning-end keys₀ keys counts pages n b s none =
     let z : b ≡ 0 = omega arith in
     let d : bandsOf keys₀ ≡ s .done = s .bands-are ∙ ap (λ (k : ℕ). bandsUp k (take n keys) ++ s .done) z in
     record {
-      counts-are = s .counts-are ∙ ap (λ (k : ℕ). replicate (2 * k) 0 ++ flatMap countsIn (s .done)) z ∙ ap (flatMap countsIn) (sym d);
-      pages-are = s .pages-are ∙ ap (λ (l : List (List (List ℕ))). total (map pageCount l)) (sym d);
-      few = omega (arith, s .pages-few);
+      planned = record {
+        counts-are = s .counts-are ∙ ap (λ (k : ℕ). replicate (2 * k) 0 ++ flatMap countsIn (s .done)) z ∙ ap (flatMap countsIn) (sym d);
+        pages-are = s .pages-are ∙ ap (λ (l : List (List (List ℕ))). total (map pageCount l)) (sym d);
+        few = omega (arith, s .pages-few);
+      };
+      no-refusal = refl;
+      used-few = s .kept .some (omega arith);
+      kept = s .kept .rest (omega arith);
     }

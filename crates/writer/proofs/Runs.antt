@@ -103,9 +103,6 @@ pub differ-other : (x y : ℕ) → (x ≡ y → ⊥) → differ x y ≡ 1
 unfolding differ
 differ-other x y e = rw (ne-eqb x y e)
 
-pub differ-small : (x y : ℕ) → differ x y ≤ 1
-differ-small x y = elim (ℕ-discrete x y) [ yes e ↦ omega (arith, differ-same x y e) | no e ↦ omega (arith, differ-other x y e) ]
-
 more-of : (k x z : ℕ) (l : List ℕ) (y : ℕ) → Run x z l → z < y → length (heads k (l ++ y ∷ [])) ≡ length (heads k l) + differ (z / 2 ^ k) (y / 2 ^ k)
 more-of k x z l y r lt =
     elim (ℕ-discrete (z / 2 ^ k) (y / 2 ^ k)) [

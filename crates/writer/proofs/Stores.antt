@@ -27,10 +27,6 @@ stored-next l at xs v h =
     ∙ append-assoc (take at l) xs (v ∷ drop (suc (at + length xs)) l)
     ∙ ap (take at l ++_) (sym (append-assoc xs (v ∷ []) (drop (suc (at + length xs)) l)) ∙ ap (λ (k : ℕ). (xs ++ v ∷ []) ++ drop k l) (sym m))
 
-pub length-stored : (l : List ℕ) (at : ℕ) (xs : List ℕ) → at + length xs ≤ length l → length (stored l at xs) ≡ length l
-length-stored l at xs h =
-    omega (arith, length-append (take at l) (xs ++ drop (at + length xs) l), length-append xs (drop (at + length xs) l), length-take-le at l (omega arith), length-drop (at + length xs) l)
-
 -- what stood at a place, put back
 pub put-back : (l : List ℕ) (i v : ℕ) → set (set l i v) i (getD l i 0) ≡ l
 put-back l i v = set-set l i v (getD l i 0) ∙ set-getD l i 0

@@ -2,23 +2,20 @@
 -- Assumes nothing.
 use mathlib.Core.Path.{_≡_, refl, sym, ap, ap₂, _∙_}
 use mathlib.Core.Bool.{Bool, true, false}
-use mathlib.Core.List.{List, [], _∷_, _++_, map}
-use Prim.Native.Nat.{ℕ, zero, suc, _+_, _*_, _-_, _/_, _%_, _^_, _<_, _≤_}
+use mathlib.Core.List.{List, [], _∷_, map}
+use Prim.Native.Nat.{ℕ, zero, suc, _+_, _*_, _/_, _%_, _^_, _<_, _≤_}
 use native.Mathlib.Omega.{arith}
 use lib.Dec.{ltb}
-use borrow.Author.Tests.{ltb-true, ltb-false, lt-ltb, le-ltb}
-use lib.ListN.{length, getD, take, drop, set, replicate}
-use lib.Seq.{take-all, take-at, length-take-le}
+use borrow.Author.Tests.{ltb-false}
+use lib.ListN.{length, getD, take, drop, set}
 use Rattle.format.specs.Key.{keyOf, spread, woven}
 use Rattle.format.proofs.Keys.{spread-join}
 use Rattle.zorder.specs.Packed.{keyOfPacked}
 use Rattle.format.specs.Writer.{write, bufferAfterWrite, writeKeys, bufferAfterWriteKeys}
 use Rattle.format.specs.declared.Admission.{Admission}
 use Rattle.writer.specs.declared.Written.{Written}
-use Rattle.writer.specs.declared.Written.the-variants.{Refused}
 use Rattle.writer.specs.Writer.{WrittenKeys}
-use Rattle.writer.specs.List.{pairsIn, keysIn, packedIn, pairsPacked, pickNumber, fitting, over, packedOver, WrittenFirst, WrittenList, too-many, written}
-use Rattle.writer.proofs.Job as job
+use Rattle.writer.specs.List.{pairsIn, keysIn, packedIn, pairsPacked, pickNumber, fitting, over, WrittenList}
 
 -- the admission at place i, or (0, 0) past the end
 abbrev pub none : Admission
@@ -67,18 +64,29 @@ fitting-right n m = go (ltb m n) refl
     go true e = omega arith
     go false e = ltb-false m n e
 
--- ---- the job
+-- ---- the keys
 
-keys-length : (ls : List Admission) → length (keysIn ls) ≡ length ls
+pub keys-length : (ls : List Admission) → length (keysIn ls) ≡ length ls
 keys-length [] = refl
 keys-length (a ∷ ls) = ap suc (keys-length ls)
 
-over-take : (ks xs : List ℕ) → length ks ≤ length xs → take (length ks) (over ks xs) ≡ ks
+-- numbers in the first places: these, how many places there are, and the rest
+pub over-take : (ks xs : List ℕ) → length ks ≤ length xs → take (length ks) (over ks xs) ≡ ks
 over-take [] xs l = refl
 over-take (k ∷ ks) [] l = absurd (omega arith)
 over-take (k ∷ ks) (x ∷ xs) l = ap (k ∷_) (over-take ks xs (omega arith))
 
-pairs-length : (ls : List Admission) → length (pairsPacked ls) ≡ length ls
+pub over-length : (ks xs : List ℕ) → length (over ks xs) ≡ length xs
+over-length [] xs = refl
+over-length (k ∷ ks) [] = refl
+over-length (k ∷ ks) (x ∷ xs) = ap suc (over-length ks xs)
+
+pub over-rest : (ks xs : List ℕ) → drop (length ks) (over ks xs) ≡ drop (length ks) xs
+over-rest [] xs = refl
+over-rest (k ∷ ks) [] = refl
+over-rest (k ∷ ks) (x ∷ xs) = over-rest ks xs
+
+pub pairs-length : (ls : List Admission) → length (pairsPacked ls) ≡ length ls
 pairs-length [] = refl
 pairs-length (a ∷ ls) = ap suc (pairs-length ls)
 
@@ -104,44 +112,15 @@ key-is a =
     let s : packedIn a % 65536 ≡ a .slot % 65536 = omega arith in
     ap₂ (λ (x y : ℕ). 2 * spread 16 x + spread 16 y) h s ∙ ap (2 * spread 16 (a .holder) +_) (spread-low (a .slot))
 
-keys-woven : (ls : List Admission) → map keyOfPacked (pairsPacked ls) ≡ keysIn ls
+pub keys-woven : (ls : List Admission) → map keyOfPacked (pairsPacked ls) ≡ keysIn ls
 keys-woven [] = refl
 keys-woven (a ∷ ls) = λ i. key-is a i ∷ keys-woven ls i
 
-in-pairs : (ls : List Admission) (buffer : List ℕ) (answer : Written) (buffer′ : List ℕ) → WrittenKeys (keysIn ls) buffer answer buffer′ → WrittenList ls buffer answer buffer′
+-- what is written of the keys is what is written of the list
+pub in-pairs : (ls : List Admission) (buffer : List ℕ) (answer : Written) (buffer′ : List ℕ) → WrittenKeys (keysIn ls) buffer answer buffer′ → WrittenList ls buffer answer buffer′
 unfolding write bufferAfterWrite
 in-pairs ls buffer answer buffer′ w =
     record {
       returned = w .returned ∙ ap (λ (k : List ℕ). writeKeys k buffer) (sym (keys-are ls));
       bytes = w .bytes ∙ ap (λ (k : List ℕ). bufferAfterWriteKeys k buffer) (sym (keys-are ls));
     }
-
--- a list that has places for all of it is packed whole
-all-packed : (ls : List Admission) (places : List ℕ) → length ls ≤ length places → take (length ls) (packedOver ls places) ≡ pairsPacked ls
-all-packed ls places fits =
-    let m : fitting (length ls) (length places) ≡ length ls = rw (le-ltb (length places) (length ls) fits) refl in
-    let k : take (fitting (length ls) (length places)) (pairsPacked ls) ≡ pairsPacked ls = ap (λ (n : ℕ). take n (pairsPacked ls)) m ∙ take-all (length ls) (pairsPacked ls) (omega (arith, pairs-length ls)) in
-    ap (λ (l : List ℕ). take (length ls) (over l places)) k
-    ∙ ap (λ (n : ℕ). take n (over (pairsPacked ls) places)) (sym (pairs-length ls))
-    ∙ over-take (pairsPacked ls) places (omega (arith, pairs-length ls))
-
--- what is written of the first numbers of the packed array is what is written of the list
-pub list-written : (ls : List Admission) (buffer : List ℕ) (answer : Written) (buffer′ : List ℕ) → WrittenFirst (packedOver ls (replicate 4096 0)) (length ls) buffer answer buffer′ → WrittenList ls buffer answer buffer′
-list-written ls buffer answer buffer′ (too-many e is same) =
-    in-pairs ls buffer answer buffer′ (rw (is, same) (job.too-many (keysIn ls) buffer (omega (arith, ltb-true 4096 (length ls) e, keys-length ls))))
-list-written ls buffer answer buffer′ (written e w) =
-    let k : map keyOfPacked (take (length ls) (packedOver ls (replicate 4096 0))) ≡ keysIn ls = ap (map keyOfPacked) (all-packed ls (replicate 4096 0) (ltb-false 4096 (length ls) e)) ∙ keys-woven ls in
-    in-pairs ls buffer answer buffer′ (rw k at w)
-
--- the first n packed admissions of an array
-pub first-refused : (pairs : List ℕ) (n : ℕ) (buffer : List ℕ) → 4096 < n → WrittenFirst pairs n buffer (Refused 14) buffer
-first-refused pairs n buffer h = too-many (lt-ltb 4096 n h) refl refl
-
-pub first-written : (pairs woven keys : List ℕ) (n : ℕ) (buffer : List ℕ) (answer : Written) (buffer′ : List ℕ) → n ≤ 4096 → woven ≡ map keyOfPacked (take (n - 0) pairs) → keys ≡ woven → WrittenKeys keys buffer answer buffer′ → WrittenFirst pairs n buffer answer buffer′
-first-written pairs woven keys n buffer answer buffer′ h e k w =
-    let z : n - 0 ≡ n = omega arith in
-    written (le-ltb 4096 n h) (rw (k ∙ e ∙ ap (λ (m : ℕ). map keyOfPacked (take m pairs)) z) at w)
-
--- a part that comes back as long as it was stands where it stood
-pub part-back : (ys xs : List ℕ) (n : ℕ) → n ≤ length xs → length ys ≡ length (take (n - 0) xs) → take (n - 0) (ys ++ drop (n - 0) xs) ≡ ys
-part-back ys xs n h e = take-at ys (drop (n - 0) xs) (n - 0) (e ∙ length-take-le (n - 0) xs (omega arith))

@@ -2,16 +2,20 @@
 -- Assumes nothing.
 use mathlib.Core.Path.{_≡_}
 use mathlib.Core.Bool.{Bool, true, false}
-use mathlib.Core.List.{List, [], _∷_, map}
-use Prim.Native.Nat.{ℕ, _+_, _*_, _%_}
+use mathlib.Core.List.{List, [], _∷_, _++_, map}
+use Prim.Native.Nat.{ℕ, _+_, _*_, _%_, _≤_, _<_}
 use lib.Dec.{ltb}
-use lib.ListN.{length, take}
+use lib.ListN.{length, take, drop}
 use Rattle.format.specs.Key.{keyOf}
 use Rattle.zorder.specs.Packed.{keyOfPacked}
 use Rattle.format.specs.Writer.{write, bufferAfterWrite}
 use Rattle.format.specs.declared.Admission.{Admission}
 use Rattle.writer.specs.declared.Written.{Written}
 use Rattle.writer.specs.Writer.{outcomeOf, WrittenKeys}
+use Rattle.writer.specs.Run.{Prefixes}
+use Rattle.writer.specs.Image.{Planned}
+use Rattle.writer.specs.Planning.{usedUp, IsRefusal, KeysPlanned}
+use Rattle.writer.specs.declared.Plan.{Plan}
 use Rattle.writer.specs.declared.Written.the-variants.{Refused}
 
 -- the pairs of holder and slot that format's definitions speak of
@@ -45,16 +49,36 @@ over [] places = places
 over (k ∷ keys) [] = []
 over (k ∷ keys) (x ∷ places) = k ∷ over keys places
 
--- the places after a list is packed into them: all of it, or nothing where it is too long
-abbrev pub packedOver : List Admission → List ℕ → List ℕ
-packedOver list places = over (take (fitting (length list) (length places)) (pairsPacked list)) places
+-- the places after the first n of a list are packed into them: all of these, or none where there are too many
+abbrev pub packedOver : ℕ → List Admission → List ℕ → List ℕ
+packedOver n list places = over (take (fitting n (length places)) (pairsPacked list)) places
 
 -- the writer's answer and the buffer at exit, for the lent list and the buffer as it was lent
 pub record WrittenList (list : List Admission) (buffer : List ℕ) (answer : Written) (buffer′ : List ℕ) : Type 0 where
   pub returned : outcomeOf answer ≡ write (pairsIn list) buffer
   pub bytes : buffer′ ≡ bufferAfterWrite (pairsIn list) buffer
 
--- the same for n packed admissions, the first of an array: where there are more than it has places for, 14
-pub data WrittenFirst (pairs : List ℕ) (n : ℕ) (buffer : List ℕ) (answer : Written) (buffer′ : List ℕ) : Type 0 where
-  too-many : ltb 4096 n ≡ true → answer ≡ Refused 14 → buffer′ ≡ buffer → WrittenFirst pairs n buffer answer buffer′
-  written : ltb 4096 n ≡ false → WrittenKeys (map keyOfPacked (take n pairs)) buffer answer buffer′ → WrittenFirst pairs n buffer answer buffer′
+-- the plan of the keys of the first n packed admissions: where there are more than 4,096 question 14 gets a no
+pub data PackedPlanned (pairs : List ℕ) (n : ℕ) (after : List ℕ) (plan : Plan) : Type 0 where
+  too-many : 4096 < n → IsRefusal 14 plan → PackedPlanned pairs n after plan
+  at-most : n ≤ 4096 → KeysPlanned (map keyOfPacked (take n pairs)) (take n after) plan → PackedPlanned pairs n after plan
+
+-- n keys, of which the first `used` are packed admissions
+unfoldable pub wovenAgain : ℕ → ℕ → List ℕ → List ℕ
+wovenAgain used n pairs = map keyOfPacked (take used pairs) ++ drop used (take n pairs)
+
+-- a plan, and the n keys that it is for, of which those that it used up are packed again
+pub record PackedAgain (pairs : List ℕ) (n : ℕ) (plan : Plan) : Type 0 where
+  pub within : n ≤ length pairs
+  pub used-few : usedUp plan ≤ n
+  pub listed : Prefixes (wovenAgain (usedUp plan) n pairs)
+  pub planned : Planned (wovenAgain (usedUp plan) n pairs) plan
+
+-- where no question got a no
+pub record PackedRoom (pairs : List ℕ) (n : ℕ) (plan : Plan) : Type 0 where
+  pub again : plan .refusal ≡ 0 → PackedAgain pairs n plan
+
+-- the answer and the buffer at exit by a plan
+pub data PackedWritten (pairs : List ℕ) (n : ℕ) (plan : Plan) (buffer : List ℕ) (answer : Written) (buffer′ : List ℕ) : Type 0 where
+  not-written : 0 < plan .refusal → answer ≡ Refused (plan .refusal) → buffer′ ≡ buffer → PackedWritten pairs n plan buffer answer buffer′
+  written : plan .refusal ≡ 0 → WrittenKeys (wovenAgain (usedUp plan) n pairs) buffer answer buffer′ → PackedWritten pairs n plan buffer answer buffer′

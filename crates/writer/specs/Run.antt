@@ -47,10 +47,11 @@ pub record PageIs (prefixes : List ℕ) (run : PageRun) : Type 0 where
   pub page : pagesOf (bandAbove prefixes) ≡ bandAbove (take (run .end) prefixes) ∷ pagesOf (bandAbove (drop (run .end) prefixes))
   pub apart : run .end < length prefixes → getD prefixes (run .end - 1) 0 / 16 ≡ getD prefixes (run .end) 0 / 16 → ⊥
 
--- a band's page count and root count; the prefixes have become those of its roots
+-- a band's page count and root count; the first prefixes have become those of its roots, and the others are as they were
 pub record BandCounted (prefixes : List ℕ) (counts : BandCounts) (after : List ℕ) : Type 0 where
   pub pages-are : counts .pages ≡ length (pagesOf (bandAbove prefixes))
   pub roots-are : counts .roots ≡ rootsIn (bandAbove prefixes)
   pub pages-few : counts .pages ≤ length prefixes
   pub roots-few : counts .roots ≤ length prefixes
   pub lifted : take (counts .roots) after ≡ rootsAbove prefixes
+  pub kept : drop (counts .roots) after ≡ drop (counts .roots) prefixes

@@ -1,8 +1,10 @@
 // The writer: from a list of keys to its image in a lent buffer. A first pass plans the pages, so that nothing is written where
 // the buffer is too small; a second fills each page in its own 64 bytes. Both go from the last band to the first, and turn the prefixes
-// below a band into those of its roots, so that the work falls with the number of nodes.
+// below a band into those of its roots, so that the work falls with the number of nodes. They share one array: the first pass uses up
+// the first keys only, which are put there again for the second.
 mod run; // run.rt: runs of prefixes, and where a page ends
 mod page; // page.rt: the bytes of one page
+mod list; // list.rt: the lent list of admissions, packed and woven into keys
 
 use format::Admission;
 use format::OutLink;
@@ -10,11 +12,12 @@ use format::Root;
 ghost use mathlib.Core.Path.{_≡_};
 ghost use mathlib.Core.List.{_++_};
 ghost use Prim.Native.Nat.{_+_, _-_, _*_, _≤_, _<_};
-ghost use lib.ListN.{length, take, drop, replicate};
+ghost use lib.ListN.{length, take, drop};
 ghost use Rattle.writer.specs.Writer.{WrittenKeys};
 ghost use Rattle.writer.specs.Run.{Prefixes};
-ghost use Rattle.writer.specs.List.{packedIn, fitting, packedOver, WrittenFirst, WrittenList};
+ghost use Rattle.writer.specs.List.{WrittenList};
 ghost use Rattle.writer.specs.Image.{headerOf, pagesFrom, bytesOfBands, Planned, BandRoom, BandDone, ImageRoom};
+ghost use Rattle.writer.specs.Planning.{usedUp, IsRefusal, FirstPass, KeysPlanned};
 
 // The image's length, or the number of the question that got a no.
 pub enum Written {
@@ -28,16 +31,36 @@ pub struct Head {
     pub link: OutLink,
 }
 
-// What the first pass finds: page count and root count of each band, and the pages of all bands.
+// What the first pass finds: the question that got a no, 14 or 15, or 0; page count and root count of each band, and the pages of all.
 pub struct Plan {
+    pub refusal: u8,
     pub counts: [u16; 16],
     pub pages: usize,
+}
+
+// Where a question gets a no, nothing is planned.
+fn refused(question: u8) -> Plan
+    ensures { λ r. ⌜ IsRefusal question r ⌝ }
+{
+    Plan {
+        refusal: question,
+        counts: [0; 16],
+        pages: 0,
+    }
+}
+
+// How many of the first keys the first pass used up: those in whose place it put the prefixes of the last band's roots.
+fn used_up(plan: Plan) -> usize
+    ensures { λ r. ⌜ r ≡ usedUp plan ⌝ }
+{
+    let counts = plan.counts;
+    counts[15] as usize
 }
 
 // The first pass.
 fn planned(keys: &mut [u32]) -> Plan
     requires { ⌜ Prefixes (now keys) ⌝ }
-    ensures { λ r. ⌜ Planned (now (keys .entry)) r ⌝ }
+    ensures { λ r. ⌜ FirstPass (now (keys .entry)) (now (keys .exit)) r ⌝ }
 {
     let mut counts = [0u16; 16];
     let mut pages = 0;
@@ -51,7 +74,23 @@ fn planned(keys: &mut [u32]) -> Plan
         pages += band.pages;
         n = band.roots;
     }
-    Plan { counts, pages }
+    Plan {
+        refusal: 0,
+        counts,
+        pages,
+    }
+}
+
+// Question 15, and the first pass. 16 is not asked: after 14 and 15 it gets a yes (format's law `list-writable`, which the proof of
+// `fill_image` cites).
+fn plan_keys(keys: &mut [u32]) -> Plan
+    requires { ⌜ length (now keys) ≤ 4096 ⌝ }
+    ensures { λ r. ⌜ KeysPlanned (now (keys .entry)) (now (keys .exit)) r ⌝ }
+{
+    if !run::is_ascending(keys) {
+        return refused(15);
+    }
+    planned(keys)
 }
 
 // Fills the header: `n` keys, and the counts of the bands.
@@ -139,6 +178,36 @@ fn load(places: &mut [u32], keys: &[u32])
     }
 }
 
+// Question 17, and the image of the keys that a plan is for.
+fn fill_image(keys: &mut [u32], out: &mut [u8], plan: Plan) -> Written
+    requires { ⌜ Prefixes (now keys) × Planned (now keys) plan ⌝ }
+    ensures { λ r. ⌜ WrittenKeys (now (keys .entry)) (now (out .entry)) r (now (out .exit)) ⌝ }
+{
+    let length = 64 + 64 * plan.pages;
+    if out.len() < length {
+        return Written::Refused(17);
+    }
+    let counts = plan.counts;
+    fill_header(out, keys.len() as u16, counts);
+    fill_bands(keys, out, plan);
+    Written::Length(length)
+}
+
+// Writes the image of the keys, with as many places to work in.
+fn write_over(places: &mut [u32], keys: &[u32], out: &mut [u8]) -> Written
+    requires { ⌜ (length (now places) ≡ length (now keys)) × (length (now keys) ≤ 4096) ⌝ }
+    ensures { λ r. ⌜ WrittenKeys (now (keys .entry)) (now (out .entry)) r (now (out .exit)) ⌝ }
+{
+    load(places, keys);
+    let plan = plan_keys(places);
+    if 0 < plan.refusal {
+        return Written::Refused(plan.refusal);
+    }
+    let used = used_up(plan);
+    load(places, &keys[0..used]);
+    fill_image(places, out, plan)
+}
+
 // Writes the image of a list of keys: questions 14 to 17, then the image's length.
 pub fn write_keys(keys: &[u32], out: &mut [u8]) -> Written
     ensures { λ r. ⌜ WrittenKeys (now (keys .entry)) (now (out .entry)) r (now (out .exit)) ⌝ }
@@ -146,81 +215,23 @@ pub fn write_keys(keys: &[u32], out: &mut [u8]) -> Written
     if 4096 < keys.len() {
         return Written::Refused(14);
     }
-    if !run::is_ascending(keys) {
-        return Written::Refused(15);
-    }
-    // 16 is not asked: after 14 and 15 it gets a yes (format's law `list-writable`, which the proof cites).
     let n = keys.len();
-    let mut prefixes = [0u32; 4096];
-    load(&mut prefixes, keys);
-    let plan = planned(&mut prefixes[0..n]);
-    let length = 64 + 64 * plan.pages;
-    if out.len() < length {
-        return Written::Refused(17);
-    }
-    let counts = plan.counts;
-    fill_header(out, n as u16, counts);
-    load(&mut prefixes, keys);
-    fill_bands(&mut prefixes[0..n], out, plan);
-    Written::Length(length)
+    let mut places = [0u32; 4096];
+    write_over(&mut places[0..n], keys, out)
 }
 
-// ---- the lent list of admissions
-// The borrow checker covers no function over a lent slice of structs, so `pack_all`, `packed`, `write` and `write_first` are proved by
-// hand. They are thin: each admission goes into one number, and the covered functions weave these into keys and write them.
-
-// An admission in one number, the holder in its higher 16 bits.
-fn pack(a: Admission) -> u32
-    ensures { λ r. ⌜ r ≡ packedIn a ⌝ }
-{
-    (a.holder as u32) * 65536 + (a.slot as u32)
-}
-
-// How many of `n` admissions are packed: all, or none where there are fewer places. So none is read where question 14 gets a no.
-fn to_pack(n: usize, places: usize) -> usize
-    ensures { λ r. ⌜ r ≡ fitting n places ⌝ }
-{
-    if places < n { 0 } else { n }
-}
-
-// Weaves the first `n` packed admissions into keys, and writes their image.
-fn write_packed(pairs: [u32; 4096], n: usize, out: &mut [u8]) -> Written
-    ensures { λ r. ⌜ WrittenFirst pairs n (now (out .entry)) r (now (out .exit)) ⌝ }
-{
-    if 4096 < n {
-        return Written::Refused(14);
-    }
-    let mut keys = pairs;
-    zorder::weave_all(&mut keys[0..n]);
-    write_keys(&keys[0..n], out)
-}
-
-// Packs the list into the first places.
-fn pack_all(list: &[Admission], pairs: &mut [u32])
-    ensures { λ _. ⌜ now (pairs .exit) ≡ packedOver (now (list .entry)) (now (pairs .entry)) ⌝ }
-{
-    let n = to_pack(list.len(), pairs.len());
-    let mut i: usize = 0;
-    while i < n {
-        pairs[i] = pack(list[i]);
-        i = i + 1;
-    }
-}
-
-// The packed list, and zeros after it.
-fn packed(list: &[Admission]) -> [u32; 4096]
-    ensures { λ r. ⌜ r ≡ packedOver (now (list .entry)) (replicate 4096 0) ⌝ }
-{
-    let mut pairs = [0; 4096];
-    pack_all(list, &mut pairs);
-    pairs
-}
-
-// The job: writes the image of the list into the first bytes of the buffer, and returns its length.
+// The job: writes the image of the list into the first bytes of the buffer, and returns its length. It and `write_first` are proved by
+// hand, as list::pack_first is: the borrow checker covers no function over a lent slice of structs.
 pub fn write(list: &[Admission], out: &mut [u8]) -> Written
     ensures { λ r. ⌜ WrittenList (now (list .entry)) (now (out .entry)) r (now (out .exit)) ⌝ }
 {
-    write_packed(packed(list), list.len(), out)
+    let n = list.len();
+    let mut keys = [0; 4096];
+    list::pack_first(list, &mut keys, n);
+    let plan = list::plan_packed(&mut keys, n);
+    let used = used_up(plan);
+    list::pack_first(list, &mut keys, used);
+    list::fill_packed(&mut keys, n, out, plan)
 }
 
 // The same for a caller that owns an array of admissions, of which the first `n` are the list: it needs no proof by hand.

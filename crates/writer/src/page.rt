@@ -56,30 +56,34 @@ fn leave(page: &mut [u8], n: usize, byte: u8) -> u8
     byte
 }
 
-// Fills in the level above the prefixes from `from` on, its last node before `end`, and puts their parents in the last places.
+// Fills in the level above the prefixes from `from` on, its last node before `end`, and puts their parents in the last places. A prefix
+// with the parent of the one after it is even and that one odd, so that its bit is twice the bit of that one.
 fn fill_level(page: &mut [u8], keys: &mut [u32], from: usize, end: usize) -> Level
     requires { ⌜ LevelRoom (now page) (now keys) from end ⌝ }
     ensures { λ r. ⌜ LevelDone (now (page .entry)) (now (keys .entry)) from end (now (page .exit)) (now (keys .exit)) r ⌝ }
 {
     let mut i = keys.len() - 1;
-    let mut y = keys[i];
-    keys[i] = y / 2;
+    let last = keys[i];
+    let mut parent = last / 2;
+    keys[i] = parent;
     let mut first = i;
     let mut node = end - 1;
-    let mut byte = page[4 + node / 4] + bit_in(node, y);
+    let mut bit = bit_in(node, last);
+    let mut byte = page[4 + node / 4] + bit;
     while from < i {
         i -= 1;
         let x = keys[i];
-        if x / 2 == y / 2 {
-            byte += bit_in(node, x);
+        if x / 2 == parent {
+            byte += 2 * bit;
         } else {
             byte = leave(page, node, byte);
             node -= 1;
-            byte += bit_in(node, x);
+            bit = bit_in(node, x);
+            byte += bit;
             first -= 1;
-            keys[first] = x / 2;
+            parent = x / 2;
+            keys[first] = parent;
         }
-        y = x;
     }
     page[4 + node / 4] = byte;
     Level { first, node }

@@ -38,18 +38,19 @@ fn more_nodes(x: u32, y: u32) -> usize
     differs(x / 8, y / 8) + differs(x / 4, y / 4) + differs(x / 2, y / 2)
 }
 
-// Question 15.
+// Question 15. It reads all keys, with no way out of the loop, so that several are compared at a time.
 pub fn is_ascending(keys: &[u32]) -> bool
     ensures { λ r. ⌜ r ≡ ascending (now (keys .entry)) ⌝ }
 {
+    let mut all = true;
     let mut i = 1;
     while i < keys.len() {
         if keys[i] <= keys[i - 1] {
-            return false;
+            all = false;
         }
         i += 1;
     }
-    true
+    all
 }
 
 // A subtrie joins the open page if the page then has at most 240 nodes, whatever a larger one would have needed; else it starts a page.
@@ -79,19 +80,21 @@ pub fn count_band(keys: &mut [u32]) -> BandCounts
         return BandCounts { pages: 0, roots: 0 };
     }
     let mut x = keys[0];
-    keys[0] = x / 16;
+    let mut root = x / 16;
+    keys[0] = root;
     let mut roots = 1;
     let mut packing = Packing { pages: 1, used: 0 };
     let mut size = 4;
     let mut i = 1;
     while i < keys.len() {
         let y = keys[i];
-        if x / 16 == y / 16 {
+        if root == y / 16 {
             size += more_nodes(x, y);
         } else {
+            root = y / 16;
             packing = join(packing, size);
             size = 4;
-            keys[roots] = y / 16;
+            keys[roots] = root;
             roots += 1;
         }
         x = y;

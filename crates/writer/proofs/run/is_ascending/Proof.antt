@@ -1,4 +1,5 @@
 -- `writer::run::is_ascending` meets its contract. The invariant is `Tested`. Assumes nothing.
+use mathlib.Core.Logic.{⊎-elim}
 use Prim.Native.Nat.{_-_}
 use borrow.Author.Needs.{needs}
 use lib.ListN.{length}
@@ -7,22 +8,22 @@ use Rattle.writer.proofs.run.is_ascending.Statement.{statement}
 use Rattle.writer.proofs.run.is_ascending.Tie as tie
 
 abbrev Inv-loop : tie.InvT-loop
-Inv-loop keys i₀ i = Tested keys i
+Inv-loop keys all₀ i₀ all i = Tested keys all i
 
 abbrev μ-loop : tie.MeasureT-loop
-μ-loop keys i₀ i = length keys - i
+μ-loop keys all₀ i₀ all i = length keys - i
 
 loop-holds : tie.Need-loop-holds Inv-loop μ-loop
 loop-holds c = tested-start _
 
-returns : tie.Need-returns Inv-loop μ-loop
-returns c = tested-no _ _ (c .before .before .before .before .loop .inv) (c .before .before .before .loop-test .taken) (c .if1 .taken)
-
 loop-again : tie.Need-loop-again Inv-loop μ-loop
-loop-again c = tested-next _ _ (c .before .before .before .before .loop .inv) (c .before .before .before .loop-test .taken) (c .if1 .left)
+loop-again c =
+    let inv = c .before .before .before .before .loop .inv in
+    let more = c .before .before .before .loop-test .taken in
+    ⊎-elim (λ w. rw (w .1) (tested-no _ _ _ inv more (w .0 .taken))) (λ w. rw (w .1) (tested-next _ _ _ inv more (w .0 .left))) (c .if1 .came)
 
-returns-2 : tie.Need-returns-2 Inv-loop μ-loop
-returns-2 c = tested-end _ _ (c .before .loop .inv) (c .loop-test .left)
+returns : tie.Need-returns Inv-loop μ-loop
+returns c = tested-end _ _ _ (c .before .loop .inv) (c .loop-test .left)
 
 pub is-ascending-spec : {M : Type 1} → statement M
 is-ascending-spec =
@@ -36,8 +37,7 @@ is-ascending-spec =
     (λ c. search needs)
     (λ c. search needs)
     (λ c. search needs)
-    returns
     (λ c. search needs)
     (λ c. search needs)
     loop-again
-    returns-2)
+    returns)

@@ -1,7 +1,7 @@
--- `writer::to_pack` meets its contract. Assumes nothing.
+-- `writer::list::to_pack` meets its contract. Assumes nothing.
 use borrow.Author.Tests.{lt-ltb, le-ltb}
-use Rattle.writer.proofs.to_pack.Statement.{statement}
-use Rattle.writer.proofs.to_pack.Tie as tie
+use Rattle.writer.proofs.list.to_pack.Statement.{statement}
+use Rattle.writer.proofs.list.to_pack.Tie as tie
 
 returns : tie.Need-returns
 returns c = simp (lt-ltb _ _ (c .if1 .taken))
