@@ -16,16 +16,7 @@ pub fn node_at(page: &[u8], node: usize) -> u8
     ensures { λ r. ⌜ r ≡ nodeOf (now (page .entry)) node ⌝ }
 {
     let b = page[4 + node / 4];
-    let k = node % 4;
-    if k == 0 {
-        b / 64 % 4
-    } else if k == 1 {
-        b / 16 % 4
-    } else if k == 2 {
-        b / 4 % 4
-    } else {
-        b % 4
-    }
+    (b >> (6 - 2 * (node % 4))) % 4
 }
 
 pub fn ahead(node: usize, n: usize) -> usize
