@@ -7,9 +7,9 @@ use native.Mathlib.Nat.{add-zero}
 use native.Mathlib.Decide.{decLt, ℕ-discrete}
 use native.Mathlib.Omega.{arith}
 use lib.ListN.{length, getD, set, replicate, getD-replicate, length-set}
-use lib.Seq.{getD-set-same, getD-set-other}
+use lib.Seq.{getD-set-same, getD-set-other, set-getD}
 use Rattle.query.specs.declared.spot.Spot.{Spot}
-use Rattle.query.specs.Cell.{SpotAt, Spots, spotIn, withSpot}
+use Rattle.query.specs.Cell.{SpotAt, Spots, endIn, rootIn, spotIn, withRoot, withSpot, withStarts}
 
 -- values put from place e on
 unfoldable puts : List ℕ → ℕ → List ℕ → List ℕ
@@ -70,6 +70,11 @@ spot-there l e spot h =
       link = record { 0 = at 7 (omega arith) i };
     }
 
+-- the spot that is kept is the one that was put
+pub kept-there : {img state : List ℕ} → Spots img state → (b : ℕ) → b ≤ 8 → {spot : Spot} {after : List ℕ} → after ≡ withSpot state (8 * (b - 1)) spot → spot ≡ spotIn after (8 * (b - 1))
+kept-there {img} {state} s b hi {spot} e =
+    spot-there state (8 * (b - 1)) spot (omega (arith, s .long)) ∙ ap (λ (l : List ℕ). spotIn l (8 * (b - 1))) (sym (e ∙ with-puts state (8 * (b - 1)) spot))
+
 -- a spot elsewhere
 spot-same : (l l′ : List ℕ) (e : ℕ) → ((k : ℕ) → k < 8 → getD l (e + k) 0 ≡ getD l′ (e + k) 0) → spotIn l e ≡ spotIn l′ e
 spot-same l l′ e f =
@@ -85,6 +90,7 @@ spot-same l l′ e f =
       link = record { 0 = f 7 (omega arith) i };
     }
 
+-- the spots after one band's was put
 pub spots-keep : {img state : List ℕ} → Spots img state → (b : ℕ) → 1 ≤ b → b ≤ 8 → {spot : Spot} → (spot .root .0 < spot .end → SpotAt img b spot) → {after : List ℕ} → after ≡ withSpot state (8 * (b - 1)) spot → Spots img after
 spots-keep {img} {state} s b lo hi {spot} f {after} e =
     let e′ = e ∙ with-puts state (8 * (b - 1)) spot in
@@ -110,5 +116,37 @@ spots-keep {img} {state} s b lo hi {spot} f {after} e =
               subst (SpotAt img c) (sym (spot-same L state (8 * (c - 1)) same)) (s .each c clo chi (omega (arith, same 0 (omega arith), same 1 (omega arith))))
         ]
 
+-- the spot moved on: its end and the page's start stay
+abbrev pub spotAfter : List ℕ → ℕ → ℕ → ℕ → ℕ → ℕ → ℕ → Spot
+spotAfter l e first second third fourth link =
+    record {
+      root = record { 0 = getD l e 0 + 1 };
+      end = getD l (e + 1) 0;
+      at = getD l (e + 2) 0;
+      first = first;
+      second = second;
+      third = third;
+      fourth = fourth;
+      link = record { 0 = link };
+    }
+
+-- a number put that stands there already
+put-same : (l : List ℕ) (e k root : ℕ) → 1 ≤ k → set (set l e root) (e + k) (getD l (e + k) 0) ≡ set l e root
+put-same l e k root h = ap (set (set l e root) (e + k)) (sym (getD-set-other l e (e + k) root 0 (λ q. omega (arith, q)))) ∙ set-getD (set l e root) (e + k) 0
+
+-- the six numbers put are all eight
+with-after : (l : List ℕ) (e first second third fourth link : ℕ) → withStarts (withRoot l e first) e second third fourth link ≡ withSpot l e (spotAfter l e first second third fourth link)
+with-after l e first second third fourth link =
+    ap (λ (m : List ℕ). set (set (set (set (set m (e + 3) first) (e + 4) second) (e + 5) third) (e + 6) fourth) (e + 7) link)
+    (sym (ap (λ (m : List ℕ). set m (e + 2) (getD l (e + 2) 0)) (put-same l e 1 (getD l e 0 + 1) (omega arith)) ∙ put-same l e 2 (getD l e 0 + 1) (omega arith)))
+
+-- the spots after a step of one band
+pub spots-move : {img state : List ℕ} → Spots img state → (b : ℕ) → 1 ≤ b → b ≤ 8 → {first second third fourth link : ℕ}
+    → (rootIn state b + 1 < endIn state b → SpotAt img b (spotAfter state (8 * (b - 1)) first second third fourth link)) → {middle : List ℕ} → middle ≡ withRoot state (8 * (b - 1)) first → {after : List ℕ}
+    → after ≡ withStarts middle (8 * (b - 1)) second third fourth link → Spots img after
+spots-move {img} {state} s b lo hi {first} {second} {third} {fourth} {link} f em e =
+    spots-keep s b lo hi f (e ∙ ap (λ (l : List ℕ). withStarts l (8 * (b - 1)) second third fourth link) em ∙ with-after state (8 * (b - 1)) first second third fourth link)
+
+-- at the start no band has a spot
 pub no-spots : (img : List ℕ) → Spots img (replicate 64 0)
 no-spots img = record { long = refl; each = λ b lo hi h. absurd (omega (arith, getD-replicate {A = ℕ} 64 (8 * (b - 1)) 0 0 (omega arith), getD-replicate {A = ℕ} 64 (8 * (b - 1) + 1) 0 0 (omega arith))) }

@@ -15,6 +15,7 @@ pub mod Sets
 pub mod Cell
 pub mod Reading
 pub mod Levels
+pub mod Windows
 pub mod Subtries
 pub mod Between
 pub mod Places
@@ -24,5 +25,7 @@ pub mod Whole
 pub mod Jobs
 pub mod Next
 pub mod Spots
+pub mod Single
+pub mod Skips
 pub mod Kept
 pub mod Walked

@@ -3,7 +3,7 @@
 use mathlib.Core.List.{List}
 use mathlib.Core.Path.{_≡_, refl, sym, ap, ap₂, _∙_}
 use Prim.Native.Nat.{ℕ, zero, suc, _+_, _-_, _*_, _/_, _%_, _^_, _≤_, _<_}
-use native.Mathlib.Nat.{add-zero, pow-suc, pow-le-pow-right}
+use native.Mathlib.Nat.{add-zero, one-mul, pow-suc, pow-le-pow-right, zero-mul}
 use native.Mathlib.Omega.{arith}
 use lib.ListN.{length}
 use Rattle.reader.specs.Page.{nodeOf}
@@ -15,6 +15,12 @@ place-rises set w p v zero = omega (arith, ap (placeAfter set w p) (add-zero v))
 place-rises set w p v (suc k) =
     let e : v + suc k ≡ suc (v + k) = omega arith in
     omega (arith, place-rises set w p v k, ap (placeAfter set w p) e)
+
+-- a node under a bit
+pub bit-times : (b n : ℕ) → b ≤ 1 → n < 4 → b * n < 4
+bit-times zero n h k = omega (arith, zero-mul n)
+bit-times (suc zero) n h k = omega (arith, one-mul n)
+bit-times (suc (suc b)) n h k = absurd (omega arith)
 
 -- `left` bits of the set are still to come
 pub record Reading (page : List ℕ) (set w p bits at left : ℕ) : Type 0 where
@@ -54,39 +60,40 @@ module _ {page : List ℕ} {set w p bits at left : ℕ} (s : Reading page set w 
     unfolding placeAfter
     place-next = ap (placeAfter set w p) next-v ∙ ap₂ _+_ (sym (s .at-is)) (bit-here ∙ eb)
 
-    bits-next : bitsAfter page set w p (w - (left - 1)) ≡ bits * 4 + ifOn b (nodeOf page at)
+    bits-next : bitsAfter page set w p (w - (left - 1)) ≡ 4 * bits + ifOn b (nodeOf page at)
     unfolding bitsAfter
     bits-next =
         ap (bitsAfter page set w p) next-v
-        ∙ ap₂ _+_ (ap (4 *_) (sym (s .bits-is)) ∙ (let m : 4 * bits ≡ bits * 4 = omega arith in m)) (ap₂ (λ (c q : ℕ). ifOn c (nodeOf page q)) (bit-here ∙ eb) (sym (s .at-is)))
+        ∙ ap₂ _+_ (ap (4 *_) (sym (s .bits-is))) (ap₂ (λ (c q : ℕ). ifOn c (nodeOf page q)) (bit-here ∙ eb) (sym (s .at-is)))
 
     pow-next : 4 ^ (w - (left - 1)) ≡ 4 ^ (w - left) * 4
     pow-next = ap (4 ^_) next-v ∙ pow-suc 4 (w - left)
 
-  pub reading-on : set / 2 ^ (left - 1) % 2 ≡ 1 → {n : ℕ} → n ≡ nodeOf page at → Reading page set w p (bits * 4 + n) (at + 1) (left - 1)
-  reading-on e {n} en =
+  -- a bit more: its node, if it is on
+  pub reading-next : (b n : ℕ) → b ≡ set / 2 ^ (left - 1) % 2 → n < 4 → (b ≡ 1 → n ≡ nodeOf page at) → Reading page set w p (4 * bits + b * n) (at + b) (left - 1)
+  reading-next b n eb few en =
       record {
         long = s .long;
         wide = s .wide;
         to = omega (arith, s .to);
         room = s .room;
-        at-is = sym (place-next 1 e);
-        bits-is = ap (bits * 4 +_) en ∙ sym (bits-next 1 e);
-        small = let k : nodeOf page at < 4 = omega arith in omega (arith, s .small, pow-next 1 e);
+        at-is = sym (place-next b (sym eb));
+        bits-is = ap (4 * bits +_) (under b bit-few en) ∙ sym (bits-next b (sym eb));
+        small = omega (arith, s .small, pow-next b (sym eb), bit-times b n bit-few few);
       }
+    where
+      bit-few : b ≤ 1
+      bit-few = omega arith
 
-  pub reading-off : (set / 2 ^ (left - 1) % 2 ≡ 1 → ⊥) → Reading page set w p (bits * 4) at (left - 1)
-  reading-off f =
-      let e : set / 2 ^ (left - 1) % 2 ≡ 0 = omega arith in
-      record {
-        long = s .long;
-        wide = s .wide;
-        to = omega (arith, s .to);
-        room = s .room;
-        at-is = sym (place-next 0 e ∙ add-zero at);
-        bits-is = sym (bits-next 0 e ∙ add-zero (bits * 4));
-        small = omega (arith, s .small, pow-next 0 e);
-      }
+      under : (b : ℕ) → b ≤ 1 → (b ≡ 1 → n ≡ nodeOf page at) → b * n ≡ ifOn b (nodeOf page at)
+      under zero h f = zero-mul n
+      under (suc zero) h f = one-mul n ∙ f refl
+      under (suc (suc b)) h f = absurd (omega arith)
+
+  pub reading-place : at ≤ 240
+  reading-place =
+      let k : w - left + left ≡ w = omega (arith, s .to) in
+      omega (arith, s .at-is, place-rises set w p (w - left) left, ap (placeAfter set w p) k, s .room)
 
   pub reading-room : set / 2 ^ (left - 1) % 2 ≡ 1 → at < 240
   reading-room e =

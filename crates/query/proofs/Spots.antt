@@ -3,6 +3,7 @@
 use mathlib.Core.List.{List, flatMap, List·Memᴰ, Memᴰ·cast}
 use mathlib.Core.Path.{_≡_, refl, sym, ap, ap₂, subst, _∙_}
 use Prim.Native.Nat.{ℕ, suc, _+_, _-_, _*_, _/_, _%_, _^_, _≤_, _<_}
+use native.Mathlib.Nat.{zero-add}
 use native.Mathlib.Omega.{arith}
 use lib.Count.{ones}
 use lib.ListN.{length, getD, take, drop, length-drop}
@@ -14,20 +15,24 @@ use Rattle.format.proofs.Descent.{asc-lt, isIn-mem, mem-at}
 use Rattle.format.proofs.Lists.{all-take, all-drop}
 use Rattle.format.proofs.Read.{page-within}
 use Rattle.format.proofs.Levels.{depth, prefixesAt, prefixes-asc}
-use Rattle.format.proofs.Walk.{reached-index}
+use Rattle.format.proofs.Walk.{reached-index, reached-place, reached-valid}
 use Rattle.reader.specs.Page.{nodeOf}
 use Rattle.nodes.specs.Words.{wordsOf}
 use Rattle.query.specs.declared.page.Page.{Page}
 use Rattle.query.specs.declared.spot.Spot.{Spot}
 use Rattle.query.specs.Page.{Ready, PageRead}
-use Rattle.query.specs.Cell.{Cell, SpotAt, StepRight, rootPrefix}
-use Rattle.query.specs.Subtrie.{asBit, setOf, levelSet, placeAfter, bitsAfter, startIn, StartsRight}
+use Rattle.query.specs.Cell.{Cell, SpotAt, rootPrefix}
+use Rattle.query.specs.Subtrie.{asBit, setOf, levelSet, placeAfter, bitsAfter, startIn, StartsRight, SubtrieRead}
 use Rattle.query.proofs.Pages.{bytes, checked, T-small}
 use Rattle.query.proofs.Ranks.{rank-few}
 use Rattle.query.proofs.Ranked.{links-count, links-few}
 use Rattle.query.proofs.Subtries.{link-is, root-way, cell₀, cell₁, cell₂, cell₃}
 use Rattle.query.proofs.Next.{Gap, gap-first, gap-next, gap-rank, cell-shift, rank-run}
 use Rattle.query.proofs.Levels.{level-next, level-room, pair-at, read-all}
+
+-- the page's part of the image
+pub part-is : (img : List ℕ) (at : ℕ) → take (at + 64 - at) (drop at img) ≡ take 64 (drop at img)
+part-is img at = let e : at + 64 - at ≡ 64 = omega arith in ap (λ (k : ℕ). take k (drop at img)) e
 
 module _ {img : List ℕ} (r : Ready img) {b : ℕ} (lo : 1 ≤ b) (hi : b ≤ 8) {spot : Spot} (s : SpotAt img b spot) where
   pub bytes-fit : spot .at + 64 ≤ length img
@@ -43,7 +48,7 @@ module _ {img : List ℕ} (r : Ready img) {b : ℕ} (lo : 1 ≤ b) (hi : b ≤ 8
     pub part-length : length part ≡ 64
     part-length = ap length ep ∙ length-take-le 64 (drop (spot .at) img) (omega (arith, bytes-fit, length-drop (spot .at) img))
 
-    read-node-is : (j : ℕ) → j < 240 → nodeOf part j ≡ getD (pagePairs img b (s .i)) j 0
+    pub read-node-is : (j : ℕ) → j < 240 → nodeOf part j ≡ getD (pagePairs img b (s .i)) j 0
     unfolding pagePairs
     read-node-is j h =
         let at : ℕ = spot .at in
@@ -54,6 +59,15 @@ module _ {img : List ℕ} (r : Ready img) {b : ℕ} (lo : 1 ≤ b) (hi : b ≤ 8
         ap (λ (v : ℕ). v / 4 ^ (3 - j % 4) % 4) e
         ∙ sym (pair-at (take 60 (drop (at + 4) img)) j (all-take Byte 60 (drop (at + 4) img) (all-drop Byte (at + 4) img (bytes r))))
         ∙ ap (λ (q : ℕ). getD (flatMap pairsOf (take 60 (drop (q + 4) img))) j 0) (s .at-is)
+
+    -- the first node of a level
+    module _ {l w base p : ℕ} (c : Cell img b (s .i) l w base p) where
+      pub start-fits : p < 240
+      start-fits =
+          omega (arith, checked r .page b (s .i) lo hi (s .in-band) .within, reached-place img (bytes r) (checked r) (r .some) b lo hi (s .i) l p (c .n) (c .y) (c .way))
+
+      pub start-valid : {n : ℕ} → n ≡ nodeOf part p → (1 ≤ n) × (n ≤ 3)
+      start-valid e = rw (e ∙ read-node-is p start-fits) (reached-valid img (bytes r) (checked r) (r .some) b lo hi (s .i) l p (c .n) (c .y) (c .way))
 
     -- one level
     module _ {l w base p set : ℕ} (lv : l < 4) (c : Cell img b (s .i) l w base p) (es : set ≡ levelSet img (depth b l) base w) where
@@ -78,40 +92,46 @@ module _ {img : List ℕ} (r : Ready img) {b : ℕ} (lo : 1 ≤ b) (hi : b ≤ 8
         let m : List·Memᴰ (y + 0) (prefixesAt img (depth b 0)) = Memᴰ·cast (sym e ∙ sym (c .way .prefix)) (mem-at (prefixesAt img (depth b 0)) (c .n) k) in
         rw (isIn-mem (y + 0) (prefixesAt img (depth b 0)) m)
 
-    pub room₀ : placeAfter 1 1 (spot .first) 1 ≤ 240
-    room₀ = room-of (omega arith) (s .cell₀) root-set
+    -- the root's node, and the place after it
+    root-bits : bitsAfter part 1 1 (spot .first) 1 ≡ nodeOf part (spot .first)
+    unfolding bitsAfter placeAfter
+    root-bits = zero-add (nodeOf part (spot .first))
 
-    module _ {two : ℕ} (e₁ : two ≡ bitsAfter part 1 1 (spot .first) 1) where
-      two-is : two ≡ levelSet img (depth b 1) (2 * rootPrefix img b (spot .root .0)) 2
-      two-is = e₁ ∙ set-of (omega arith) (s .cell₀) root-set
+    root-place : placeAfter 1 1 (spot .first) 1 ≡ spot .first + 1
+    unfolding placeAfter
+    root-place = refl
 
-      pub room₁ : placeAfter two 2 (spot .second) 2 ≤ 240
-      room₁ = room-of (omega arith) (s .cell₁) two-is
+    module _ {one : ℕ} (e₁ : one ≡ nodeOf part (spot .first)) where
+      one-is : one ≡ levelSet img (depth b 1) (2 * rootPrefix img b (spot .root .0)) 2
+      one-is = e₁ ∙ sym root-bits ∙ set-of (omega arith) (s .cell₀) root-set
 
-      module _ {four : ℕ} (e₂ : four ≡ bitsAfter part two 2 (spot .second) 2) where
-        four-is : four ≡ levelSet img (depth b 2) (2 * (2 * rootPrefix img b (spot .root .0))) 4
-        four-is = e₂ ∙ set-of (omega arith) (s .cell₁) two-is
+      pub room₁ : placeAfter one 2 (spot .second) 2 ≤ 240
+      room₁ = room-of (omega arith) (s .cell₁) one-is
 
-        pub room₂ : placeAfter four 4 (spot .third) 4 ≤ 240
-        room₂ = room-of (omega arith) (s .cell₂) four-is
+      module _ {two : ℕ} (e₂ : two ≡ bitsAfter part one 2 (spot .second) 2) where
+        two-is : two ≡ levelSet img (depth b 2) (2 * (2 * rootPrefix img b (spot .root .0))) 4
+        two-is = e₂ ∙ set-of (omega arith) (s .cell₁) one-is
 
-        module _ {eight : ℕ} (e₃ : eight ≡ bitsAfter part four 4 (spot .third) 4) where
-          eight-is : eight ≡ levelSet img (depth b 3) (2 * (2 * (2 * rootPrefix img b (spot .root .0)))) 8
-          eight-is = e₃ ∙ set-of (omega arith) (s .cell₂) four-is
+        pub room₂ : placeAfter two 4 (spot .third) 4 ≤ 240
+        room₂ = room-of (omega arith) (s .cell₂) two-is
 
-          pub room₃ : placeAfter eight 8 (spot .fourth) 8 ≤ 240
-          room₃ = room-of (omega arith) (s .cell₃) eight-is
+        module _ {four : ℕ} (e₃ : four ≡ bitsAfter part two 4 (spot .third) 4) where
+          four-is : four ≡ levelSet img (depth b 3) (2 * (2 * (2 * rootPrefix img b (spot .root .0)))) 8
+          four-is = e₃ ∙ set-of (omega arith) (s .cell₂) two-is
 
-          pub set-is : {set : ℕ} → set ≡ bitsAfter part eight 8 (spot .fourth) 8 → set ≡ levelSet img (4 * b) (16 * rootPrefix img b (spot .root .0)) 16
+          pub room₃ : placeAfter four 8 (spot .fourth) 8 ≤ 240
+          room₃ = room-of (omega arith) (s .cell₃) four-is
+
+          pub set-is : {set : ℕ} → set ≡ bitsAfter part four 8 (spot .fourth) 8 → set ≡ levelSet img (4 * b) (16 * rootPrefix img b (spot .root .0)) 16
           set-is e₄ =
               let y = rootPrefix img b (spot .root .0) in
               let base : 2 * (2 * (2 * (2 * y))) ≡ 16 * y = omega arith in
               let d₄ : depth b 4 ≡ 4 * b = omega arith in
-              e₄ ∙ set-of (omega arith) (s .cell₃) eight-is ∙ ap₂ (λ (k z : ℕ). levelSet img k z 16) d₄ base
+              e₄ ∙ set-of (omega arith) (s .cell₃) four-is ∙ ap₂ (λ (k z : ℕ). levelSet img k z 16) d₄ base
 
--- ---- the next root of the page
+-- ---- the spot's page
 
-module _ {img : List ℕ} (r : Ready img) {b : ℕ} (lo : 1 ≤ b) (hi : b ≤ 8) {spot : Spot} (s : SpotAt img b spot) (more : spot .root .0 + 1 < spot .end) where
+module _ {img : List ℕ} (r : Ready img) {b : ℕ} (lo : 1 ≤ b) (hi : b ≤ 8) {spot : Spot} (s : SpotAt img b spot) where
   page : Page
   page =
       record {
@@ -129,6 +149,14 @@ module _ {img : List ℕ} (r : Ready img) {b : ℕ} (lo : 1 ≤ b) (hi : b ≤ 8
   unfolding page
   read = record { from = lo; to = hi; in-band = s .in-band; number = refl; t = refl; b = refl; roots = refl; nodes = refl; words = refl }
 
+  -- a root of it
+  pub root-cell : {n : ℕ} → pageT img b (s .i) ≤ n → n < pageT img b (s .i) + pageRoots img b (s .i) → Cell img b (s .i) 0 1 (rootPrefix img b n) (n - pageT img b (s .i))
+  unfolding page
+  root-cell from to = cell₀ r read from to
+
+-- ---- the next root of the page
+
+module _ {img : List ℕ} (r : Ready img) {b : ℕ} (lo : 1 ≤ b) (hi : b ≤ 8) {spot : Spot} (s : SpotAt img b spot) (more : spot .root .0 + 1 < spot .end) where
   start-of : pageT img b (s .i) ≤ spot .root .0 + 1
   start-of = omega (arith, s .from)
 
@@ -140,27 +168,27 @@ module _ {img : List ℕ} (r : Ready img) {b : ℕ} (lo : 1 ≤ b) (hi : b ≤ 8
   start k = startIn (wordsOf img (64 * pageNumber img b (s .i)) .word) (wordsOf img (64 * pageNumber img b (s .i)) .before) (pageRoots img b (s .i)) (spot .root .0 + 1 - pageT img b (s .i)) k
 
   next₀ : Cell img b (s .i) 0 1 (rootPrefix img b (spot .root .0 + 1)) (start 0)
-  unfolding page start
-  next₀ = cell₀ r read start-of end-of
+  unfolding start
+  next₀ = root-cell r lo hi s start-of end-of
 
   next₁ : Cell img b (s .i) 1 2 (2 * rootPrefix img b (spot .root .0 + 1)) (start 1)
   unfolding page start
-  next₁ = cell₁ r read start-of end-of
+  next₁ = cell₁ r (read r lo hi s) start-of end-of
 
   next₂ : Cell img b (s .i) 2 4 (2 * (2 * rootPrefix img b (spot .root .0 + 1))) (start 2)
   unfolding page start
-  next₂ = cell₂ r read start-of end-of
+  next₂ = cell₂ r (read r lo hi s) start-of end-of
 
   next₃ : Cell img b (s .i) 3 8 (2 * (2 * (2 * rootPrefix img b (spot .root .0 + 1)))) (start 3)
   unfolding page start
-  next₃ = cell₃ r read start-of end-of
+  next₃ = cell₃ r (read r lo hi s) start-of end-of
 
   -- its prefix is the next one
   within : spot .root .0 + 1 < length (prefixesAt img (4 * (b - 1)))
   unfolding page
   within =
       let e : depth b 0 ≡ 4 * (b - 1) = omega arith in
-      omega (arith, reached-index img (bytes r) (checked r) (r .some) b lo hi (s .i) 0 _ (spot .root .0 + 1) _ (root-way r read start-of end-of), ap (λ (k : ℕ). length (prefixesAt img k)) e)
+      omega (arith, reached-index img (bytes r) (checked r) (r .some) b lo hi (s .i) 0 _ (spot .root .0 + 1) _ (root-way r (read r lo hi s) start-of end-of), ap (λ (k : ℕ). length (prefixesAt img k)) e)
 
   above : rootPrefix img b (spot .root .0) + 1 ≤ rootPrefix img b (spot .root .0 + 1)
   above = let h = asc-lt (prefixesAt img (4 * (b - 1))) (spot .root .0) (spot .root .0 + 1) (prefixes-asc img (bytes r) (checked r) (r .some) (4 * (b - 1))) (omega arith) within in omega arith
@@ -209,30 +237,31 @@ module _ {img : List ℕ} (r : Ready img) {b : ℕ} (lo : 1 ≤ b) (hi : b ≤ 8
 -- ---- a step
 
 module _ {img : List ℕ} (r : Ready img) {b : ℕ} (lo : 1 ≤ b) (hi : b ≤ 8) {spot : Spot} (s : SpotAt img b spot) {part : List ℕ} (ep : part ≡ take 64 (drop (spot .at) img))
-    {two four eight set : ℕ} (e₁ : two ≡ bitsAfter part 1 1 (spot .first) 1) (e₂ : four ≡ bitsAfter part two 2 (spot .second) 2) (e₃ : eight ≡ bitsAfter part four 4 (spot .third) 4)
-    (e₄ : set ≡ bitsAfter part eight 8 (spot .fourth) 8) where
-  pub step-is : {next : Spot} → next .root .0 ≡ spot .root .0 + 1 → next .end ≡ spot .end → next .at ≡ spot .at → next .first ≡ placeAfter 1 1 (spot .first) 1 → next .second ≡ placeAfter two 2 (spot .second) 2
-      → next .third ≡ placeAfter four 4 (spot .third) 4 → next .fourth ≡ placeAfter eight 8 (spot .fourth) 8 → {m : ℕ} → m ≡ ones set → next .link .0 ≡ spot .link .0 + m → StepRight img b spot set next
-  step-is {next} er en ea p₀ p₁ p₂ p₃ {m} em el = record { set-is = set-is r lo hi s ep e₁ e₂ e₃ e₄; next-is = λ lt. after lt }
-    where
-      after : next .root .0 < next .end → SpotAt img b next
-      after lt =
-          let more : spot .root .0 + 1 < spot .end = omega (arith, er, en) in
-          let up = above r lo hi s more in
-          let y = rootPrefix img b (spot .root .0) in
-          record {
-            i = s .i;
-            in-band = s .in-band;
-            from = omega (arith, er, s .from);
-            to = lt;
-            end-is = en ∙ s .end-is;
-            at-is = ea ∙ s .at-is;
-            cell₀ = rw (er, p₀) (reaches r lo hi s more (s .cell₀) (next₀ r lo hi s more) (omega arith) (gap₀ r lo hi s more) (place-of r lo hi s ep (omega arith) (s .cell₀) (root-set r lo hi s ep)));
-            cell₁ = rw (er, p₁) (reaches r lo hi s more (s .cell₁) (next₁ r lo hi s more) (omega arith) (gap₁ r lo hi s more) (place-of r lo hi s ep (omega arith) (s .cell₁) (two-is r lo hi s ep e₁)));
-            cell₂ = rw (er, p₂) (reaches r lo hi s more (s .cell₂) (next₂ r lo hi s more) (omega arith) (gap₂ r lo hi s more) (place-of r lo hi s ep (omega arith) (s .cell₂) (four-is r lo hi s ep e₁ e₂)));
-            cell₃ = rw (er, p₃) (reaches r lo hi s more (s .cell₃) (next₃ r lo hi s more) (omega arith) (gap₃ r lo hi s more) (place-of r lo hi s ep (omega arith) (s .cell₃) (eight-is r lo hi s ep e₁ e₂ e₃)));
-            link-is = rw er (el ∙ link-next r lo hi s more (set-is r lo hi s ep e₁ e₂ e₃ e₄) em);
-          }
+    {one two four set : ℕ} (e₁ : one ≡ nodeOf part (spot .first)) (e₂ : two ≡ bitsAfter part one 2 (spot .second) 2) (e₃ : four ≡ bitsAfter part two 4 (spot .third) 4)
+    (e₄ : set ≡ bitsAfter part four 8 (spot .fourth) 8) where
+  -- the subtrie read
+  pub subtrie-read : SubtrieRead img b (rootPrefix img b (spot .root .0)) set (spot .link .0)
+  subtrie-read = record { set-is = set-is r lo hi s ep e₁ e₂ e₃ e₄; link-is = s .link-is }
+
+  -- the spot after it
+  pub next-spot : {next : Spot} → next .root .0 ≡ spot .root .0 + 1 → next .end ≡ spot .end → next .at ≡ spot .at → next .first ≡ spot .first + 1 → next .second ≡ placeAfter one 2 (spot .second) 2
+      → next .third ≡ placeAfter two 4 (spot .third) 4 → next .fourth ≡ placeAfter four 8 (spot .fourth) 8 → {m : ℕ} → m ≡ ones set → next .link .0 ≡ spot .link .0 + m → next .root .0 < next .end → SpotAt img b next
+  next-spot {next} er en ea p₀ p₁ p₂ p₃ {m} em el lt =
+      let more : spot .root .0 + 1 < spot .end = omega (arith, er, en) in
+      let up = above r lo hi s more in
+      record {
+        i = s .i;
+        in-band = s .in-band;
+        from = omega (arith, er, s .from);
+        to = lt;
+        end-is = en ∙ s .end-is;
+        at-is = ea ∙ s .at-is;
+        cell₀ = rw (er, p₀, ← root-place r lo hi s ep) (reaches r lo hi s more (s .cell₀) (next₀ r lo hi s more) (omega arith) (gap₀ r lo hi s more) (place-of r lo hi s ep (omega arith) (s .cell₀) (root-set r lo hi s ep)));
+        cell₁ = rw (er, p₁) (reaches r lo hi s more (s .cell₁) (next₁ r lo hi s more) (omega arith) (gap₁ r lo hi s more) (place-of r lo hi s ep (omega arith) (s .cell₁) (one-is r lo hi s ep e₁)));
+        cell₂ = rw (er, p₂) (reaches r lo hi s more (s .cell₂) (next₂ r lo hi s more) (omega arith) (gap₂ r lo hi s more) (place-of r lo hi s ep (omega arith) (s .cell₂) (two-is r lo hi s ep e₁ e₂)));
+        cell₃ = rw (er, p₃) (reaches r lo hi s more (s .cell₃) (next₃ r lo hi s more) (omega arith) (gap₃ r lo hi s more) (place-of r lo hi s ep (omega arith) (s .cell₃) (four-is r lo hi s ep e₁ e₂ e₃)));
+        link-is = rw er (el ∙ link-next r lo hi s more (set-is r lo hi s ep e₁ e₂ e₃ e₄) em);
+      }
 
 -- ---- the spot of a root, from its page
 

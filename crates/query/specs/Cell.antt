@@ -9,7 +9,6 @@ use Rattle.format.specs.Image.{pageCount, pageNumber, pageRoots, pageT}
 use Rattle.format.proofs.Levels.{depth, prefixesAt}
 use Rattle.format.proofs.Walk.{Reached}
 use Rattle.query.specs.declared.spot.Spot.{Spot}
-use Rattle.query.specs.Subtrie.{levelSet}
 
 -- a node of level l with prefix y
 pub record ReachedTo (img : List ℕ) (b i l y : ℕ) : Type 0 where
@@ -45,11 +44,6 @@ pub record SpotAt (img : List ℕ) (b : ℕ) (spot : Spot) : Type 0 where
   pub cell₃ : Cell img b i 3 8 (2 * (2 * (2 * rootPrefix img b (spot .root .0)))) (spot .fourth)
   pub link-is : spot .link .0 ≡ rankIn (prefixesAt img (4 * b)) (16 * rootPrefix img b (spot .root .0))
 
--- a subtrie read at a spot, and the spot after it
-pub record StepRight (img : List ℕ) (b : ℕ) (spot : Spot) (set : ℕ) (next : Spot) : Type 0 where
-  pub set-is : set ≡ levelSet img (4 * b) (16 * rootPrefix img b (spot .root .0)) 16
-  pub next-is : next .root .0 < next .end → SpotAt img b next
-
 -- the spots of the eight bands, eight numbers each
 abbrev pub spotIn : List ℕ → ℕ → Spot
 spotIn l e =
@@ -64,11 +58,26 @@ spotIn l e =
       link = record { 0 = getD l (e + 7) 0 };
     }
 
+-- the root and the end of the spot of band b
+abbrev pub rootIn : List ℕ → ℕ → ℕ
+rootIn l b = getD l (8 * (b - 1)) 0
+
+abbrev pub endIn : List ℕ → ℕ → ℕ
+endIn l b = getD l (8 * (b - 1) + 1) 0
+
+-- the eight numbers put
 abbrev pub withSpot : List ℕ → ℕ → Spot → List ℕ
 withSpot l e spot =
     set (set (set (set (set (set (set (set l e (spot .root .0)) (e + 1) (spot .end)) (e + 2) (spot .at)) (e + 3) (spot .first)) (e + 4) (spot .second)) (e + 5) (spot .third)) (e + 6) (spot .fourth)) (e + 7) (spot .link .0)
 
+-- the root moved on by one and its place put, and the numbers put that change with it
+abbrev pub withRoot : List ℕ → ℕ → ℕ → List ℕ
+withRoot l e first = set (set l e (getD l e 0 + 1)) (e + 3) first
+
+abbrev pub withStarts : List ℕ → ℕ → ℕ → ℕ → ℕ → ℕ → List ℕ
+withStarts l e second third fourth link = set (set (set (set l (e + 4) second) (e + 5) third) (e + 6) fourth) (e + 7) link
+
 -- each band's spot is right, or it has none: its root is not before its end
 pub record Spots (img state : List ℕ) : Type 0 where
   pub long : length state ≡ 64
-  pub each : (b : ℕ) → 1 ≤ b → b ≤ 8 → getD state (8 * (b - 1)) 0 < getD state (8 * (b - 1) + 1) 0 → SpotAt img b (spotIn state (8 * (b - 1)))
+  pub each : (b : ℕ) → 1 ≤ b → b ≤ 8 → rootIn state b < endIn state b → SpotAt img b (spotIn state (8 * (b - 1)))

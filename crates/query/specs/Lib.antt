@@ -6,3 +6,4 @@ pub mod Subtrie
 pub mod Walk
 pub mod Outcomes
 pub mod Cell
+pub mod Window

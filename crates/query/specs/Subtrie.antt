@@ -41,6 +41,11 @@ unfoldable pub bitsAfter : List ℕ → ℕ → ℕ → ℕ → ℕ → ℕ
 bitsAfter page set w p zero = 0
 bitsAfter page set w p (suc v) = 4 * bitsAfter page set w p v + ifOn (setBit set w v) (nodeOf page (placeAfter set w p v))
 
+-- The set of a subtrie that is a single path: its first three nodes have one bit each, which tell where under the fourth level the two bits of its
+-- fourth node stand.
+unfoldable pub pathSet : ℕ → ℕ → ℕ → ℕ → ℕ
+pathSet one two three four = four * 2 ^ (14 - 2 * (4 * (one % 2) + 2 * (two % 2) + three % 2))
+
 -- the subtrie of prefix x of band b: which of the 16 prefixes that go on from x are there, and the number of the first of them among those of 4 b bits
 pub record SubtrieRead (img : List ℕ) (b x set link : ℕ) : Type 0 where
   pub set-is : set ≡ levelSet img (4 * b) (16 * x) 16

@@ -2,10 +2,13 @@
 mod climb;
 mod page;
 mod select;
+mod skip;
 mod spot;
+mod state;
 mod subtrie;
 mod walk;
 mod way;
+mod window;
 
 ghost use mathlib.Core.Path.{_≡_};
 ghost use lib.Dec.{ltb};

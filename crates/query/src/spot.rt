@@ -1,17 +1,25 @@
 // Where the reading of each band stands. A walk reads the subtries of a band from left to right: the next one of a page is read from where the last one
 // ended, and a page is looked for only where the walk skips or the page ends.
 ghost use mathlib.Core.Path.{_≡_};
-ghost use Prim.Native.Nat.{_+_, _-_, _*_, _≤_, _<_};
-ghost use lib.ListN.{length};
-ghost use lib.Count.{ones};
+ghost use Prim.Native.Nat.{_≤_, _<_};
 ghost use Rattle.format.specs.Image.{rootCount};
 ghost use Rattle.query.specs.Page.{Ready, BandRead};
-ghost use Rattle.query.specs.Cell.{SpotAt, StepRight, Spots, rootPrefix, spotIn, withSpot};
+ghost use Rattle.query.specs.Cell.{SpotAt, Spots, endIn, rootIn, rootPrefix};
 ghost use Rattle.query.specs.Subtrie.{SubtrieRead};
 use crate::page::Band;
+use crate::page::band_at;
 use crate::page::page_near;
+use crate::skip::skip;
+use crate::state::load;
+use crate::state::move_root;
+use crate::state::move_starts;
+use crate::state::store;
 use crate::subtrie::level_starts;
 use crate::subtrie::next_level;
+use crate::subtrie::node;
+use crate::subtrie::on_bits;
+use crate::subtrie::path_set;
+use crate::window::ones_of;
 use format::OutLink;
 use format::Root;
 
@@ -26,12 +34,6 @@ pub struct Spot {
     pub third: usize,
     pub fourth: usize,
     pub link: OutLink,
-}
-
-// A subtrie read, and the spot after it.
-pub struct Step {
-    pub set: u32,
-    pub next: Spot,
 }
 
 // The out-links of a root: bit 15 of `set` for the ending 0, bit 0 for 15. `link` is the first of them.
@@ -61,89 +63,44 @@ fn spot_of(image: &[u8], band: Band, root: Root, hint: usize) -> Spot
     }
 }
 
-// The number of set bits.
-fn ones_of(set: u32) -> usize
-    ensures { λ r. ⌜ (r ≡ ones set) × (r ≤ 32) ⌝ }
+// Reads the subtrie at the spot of band `number` and moves the spot on. Most subtries are a single path: no node of the first three levels has both
+// bits, so that each level has one node. What both ways change is stored before they part: fewer numbers are then kept in registers.
+fn advance(image: &[u8], state: &mut [usize; 64], number: usize) -> Subtrie
+    requires { ⌜ (Ready (now image)) × (1 ≤ number) × (number ≤ 8) × (Spots (now image) (now state)) × (rootIn (now state) number < endIn (now state) number) ⌝ }
+    ensures { λ r. ⌜ (SubtrieRead (now (image .entry)) number (rootPrefix (now (image .entry)) number (rootIn (now (state .entry)) number)) (r .set) (r .link .0)) × (Spots (now (image .entry)) (now (state .exit))) ⌝ }
 {
-    u32::count_ones(set) as usize
-}
-
-// Reads the subtrie at a spot of band `number`.
-fn read_spot(image: &[u8], number: usize, spot: Spot) -> Step
-    requires { ⌜ (Ready (now image)) × (1 ≤ number) × (number ≤ 8) × (SpotAt (now image) number spot) ⌝ }
-    ensures { λ r. ⌜ StepRight (now (image .entry)) number spot (r .set) (r .next) ⌝ }
-{
+    let spot = load(state, number);
     let at = spot.at;
     let bytes = &image[at..at + 64];
-    let two = next_level(bytes, spot.first, 1, 1);
-    let four = next_level(bytes, spot.second, two.bits, 2);
-    let eight = next_level(bytes, spot.third, four.bits, 4);
-    let last = next_level(bytes, spot.fourth, eight.bits, 8);
-    let root = spot.root;
+    let first = spot.first;
+    let second = spot.second;
+    let third = spot.third;
+    let fourth = spot.fourth;
     let link = spot.link;
-    let next = Spot {
-        root: Root(root.0 + 1),
-        end: spot.end,
-        at,
-        first: two.place,
-        second: four.place,
-        third: eight.place,
-        fourth: last.place,
-        link: OutLink(link.0 + ones_of(last.bits)),
-    };
-    Step {
-        set: last.bits,
-        next,
+    let one = node(bytes, first);
+    let two = node(bytes, second);
+    let three = node(bytes, third);
+    move_root(state, number, first + 1);
+    if one != 3 {
+        if two != 3 {
+            if three != 3 {
+                let four = node(bytes, fourth);
+                let out = link.0 + on_bits(four);
+                move_starts(state, number, second + 1, third + 1, fourth + 1, out);
+                return Subtrie {
+                    set: path_set(one, two, three, four),
+                    link,
+                };
+            }
+        }
     }
-}
-
-// The spot of band `number`.
-fn load(state: &[usize; 64], number: usize) -> Spot
-    requires { ⌜ (1 ≤ number) × (number ≤ 8) ⌝ }
-    ensures { λ r. ⌜ r ≡ spotIn (now (state .entry)) (8 * (number - 1)) ⌝ }
-{
-    let e = 8 * (number - 1);
-    Spot {
-        root: Root(state[e]),
-        end: state[e + 1],
-        at: state[e + 2],
-        first: state[e + 3],
-        second: state[e + 4],
-        third: state[e + 5],
-        fourth: state[e + 6],
-        link: OutLink(state[e + 7]),
-    }
-}
-
-// Keeps the spot of band `number`.
-fn store(state: &mut [usize; 64], number: usize, spot: Spot)
-    requires { ⌜ (1 ≤ number) × (number ≤ 8) ⌝ }
-    ensures { λ r. ⌜ now (state .exit) ≡ withSpot (now (state .entry)) (8 * (number - 1)) spot ⌝ }
-{
-    let e = 8 * (number - 1);
-    let root = spot.root;
-    let link = spot.link;
-    state[e] = root.0;
-    state[e + 1] = spot.end;
-    state[e + 2] = spot.at;
-    state[e + 3] = spot.first;
-    state[e + 4] = spot.second;
-    state[e + 5] = spot.third;
-    state[e + 6] = spot.fourth;
-    state[e + 7] = link.0;
-}
-
-// Reads the subtrie at a spot and keeps the spot after it.
-fn advance(image: &[u8], state: &mut [usize; 64], number: usize, spot: Spot) -> Subtrie
-    requires { ⌜ (Ready (now image)) × (1 ≤ number) × (number ≤ 8) × (SpotAt (now image) number spot) × (Spots (now image) (now state)) ⌝ }
-    ensures { λ r. ⌜ (SubtrieRead (now (image .entry)) number (rootPrefix (now (image .entry)) number (spot .root .0)) (r .set) (r .link .0)) × (Spots (now (image .entry)) (now (state .exit))) ⌝ }
-{
-    let step = read_spot(image, number, spot);
-    let next = step.next;
-    store(state, number, next);
-    let link = spot.link;
+    let two = next_level(bytes, second, one, 2);
+    let four = next_level(bytes, third, two.bits, 4);
+    let last = next_level(bytes, fourth, four.bits, 8);
+    let out = link.0 + ones_of(last.bits as u64);
+    move_starts(state, number, two.place, four.place, last.place, out);
     Subtrie {
-        set: step.set,
+        set: last.bits,
         link,
     }
 }
@@ -156,18 +113,36 @@ fn past(a: usize, b: usize) -> usize {
     b - a
 }
 
-// The subtrie of a root, from where the reading of its band stands if that is the root.
-pub fn next_subtrie(image: &[u8], state: &mut [usize; 64], band: Band, root: Root) -> Subtrie
-    requires { ⌜ (Ready (now image)) × (BandRead (now image) band) × (root .0 < rootCount (now image) (band .number)) × (Spots (now image) (now state)) ⌝ }
-    ensures { λ r. ⌜ (SubtrieRead (now (image .entry)) (band .number) (rootPrefix (now (image .entry)) (band .number) (root .0)) (r .set) (r .link .0)) × (Spots (now (image .entry)) (now (state .exit))) ⌝ }
+// Finds the spot of a root and keeps it: from the spot kept before if that is before it in its page. Else that page is tried first, since a walk often
+// stays in a page.
+fn seek(image: &[u8], state: &mut [usize; 64], number: usize, root: Root)
+    requires { ⌜ (Ready (now image)) × (1 ≤ number) × (number ≤ 8) × (root .0 < rootCount (now image) number) × (Spots (now image) (now state)) ⌝ }
+    ensures { λ r. ⌜ (Spots (now (image .entry)) (now (state .exit))) × (rootIn (now (state .exit)) number ≡ root .0) × (root .0 < endIn (now (state .exit)) number) ⌝ }
 {
-    let kept = load(state, band.number);
+    let kept = load(state, number);
     let there = kept.root;
-    if there.0 == root.0 {
+    if there.0 < root.0 {
         if root.0 < kept.end {
-            return advance(image, state, band.number, kept);
+            let next = skip(image, number, kept, root);
+            store(state, number, next);
+            return;
         }
     }
-    let found = spot_of(image, band, root, past(band.first, kept.at / 64));
-    advance(image, state, band.number, found)
+    let first = checker::header::first_page(image, number);
+    let band = band_at(image, number, first);
+    let found = spot_of(image, band, root, past(first, kept.at / 64));
+    store(state, number, found);
+}
+
+// The subtrie of a root, from where the reading of its band stands if that is the root. The spot is loaded after a seek, and not handed on by it, so
+// that the common way has few numbers alive.
+pub fn next_subtrie(image: &[u8], state: &mut [usize; 64], number: usize, root: Root) -> Subtrie
+    requires { ⌜ (Ready (now image)) × (1 ≤ number) × (number ≤ 8) × (root .0 < rootCount (now image) number) × (Spots (now image) (now state)) ⌝ }
+    ensures { λ r. ⌜ (SubtrieRead (now (image .entry)) number (rootPrefix (now (image .entry)) number (root .0)) (r .set) (r .link .0)) × (Spots (now (image .entry)) (now (state .exit))) ⌝ }
+{
+    let e = 8 * (number - 1);
+    if state[e] != root.0 || state[e + 1] <= root.0 {
+        seek(image, state, number, root);
+    }
+    advance(image, state, number)
 }

@@ -1,10 +1,39 @@
 // The levels of a subtrie: where they start in a page, and their bits.
 ghost use mathlib.Core.Path.{_≡_};
-ghost use Prim.Native.Nat.{_+_, _-_, _*_, _≤_, _<_};
+ghost use Prim.Native.Nat.{_+_, _-_, _*_, _/_, _%_, _^_, _≤_, _<_};
+ghost use lib.Count.{ones};
 ghost use lib.ListN.{length};
-ghost use Rattle.query.specs.Subtrie.{placeAfter, bitsAfter, startIn, StartsRight};
+ghost use Rattle.reader.specs.Page.{nodeOf};
+ghost use Rattle.query.specs.Subtrie.{bitsAfter, pathSet, placeAfter, startIn, StartsRight};
+use crate::window::top;
+use crate::window::window;
 use nodes::on_bits_before;
 use reader::read_node;
+
+// Node `at` of a page.
+pub fn node(page: &[u8], at: usize) -> u32
+    requires { ⌜ (length (now page) ≡ 64) × (at < 240) ⌝ }
+    ensures { λ r. ⌜ (r ≡ nodeOf (now (page .entry)) at) × (r < 4) ⌝ }
+{
+    read_node(page, at) as u32
+}
+
+// The on bits of a node.
+pub fn on_bits(node: u32) -> usize
+    requires { ⌜ node < 4 ⌝ }
+    ensures { λ r. ⌜ (r ≡ ones node) × (r ≤ 2) ⌝ }
+{
+    (node / 2 + node % 2) as usize
+}
+
+// The out-links of a subtrie that is a single path: the two bits of its fourth node, at the ending to which the nodes above lead.
+pub fn path_set(one: u32, two: u32, three: u32, four: u32) -> u32
+    requires { ⌜ four < 4 ⌝ }
+    ensures { λ r. ⌜ r ≡ pathSet one two three four ⌝ }
+{
+    let place = 4 * (one % 2) + 2 * (two % 2) + three % 2;
+    four << (14 - 2 * place)
+}
 
 // A level of a subtrie: the bits of its nodes, and the place after them.
 pub struct Level {
@@ -12,22 +41,30 @@ pub struct Level {
     pub place: usize,
 }
 
-// The next level of a subtrie. Under each on bit of `set`, `width` bits with the first the highest, stands the next node from `place` on: the nodes'
+// Bit `n` of a set.
+fn bit(set: u32, n: usize) -> u32
+    requires { ⌜ n < 32 ⌝ }
+    ensures { λ r. ⌜ (r ≡ set / 2 ^ n % 2) × (r ≤ 1) ⌝ }
+{
+    (set >> n) % 2
+}
+
+// The next level of a subtrie, read from a window without branches. Under each on bit of `set`, `width` bits with the first the highest, stands the next node from `place` on: the nodes'
 // bits in order, 00 under an off bit.
 pub fn next_level(page: &[u8], place: usize, set: u32, width: usize) -> Level
-    requires { ⌜ (length (now page) ≡ 64) × (1 ≤ width) × (width ≤ 8) × (placeAfter set width place width ≤ 240) ⌝ }
+    requires { ⌜ (length (now page) ≡ 64) × (place < 240) × (1 ≤ width) × (width ≤ 8) × (placeAfter set width place width ≤ 240) ⌝ }
     ensures { λ r. ⌜ (r .bits ≡ bitsAfter (now (page .entry)) set width place width) × (r .bits < 65536) × (r .place ≡ placeAfter set width place width) ⌝ }
 {
+    let mut nodes = window(page, place);
     let mut bits = 0u32;
     let mut at = place;
     let mut left = width;
     while 0 < left {
         left -= 1;
-        bits *= 4;
-        if (set >> left) % 2 == 1 {
-            bits += read_node(page, at) as u32;
-            at += 1;
-        }
+        let on = bit(set, left);
+        bits = 4 * bits + on * top(nodes);
+        nodes = nodes << (2 * on);
+        at += on as usize;
     }
     Level { bits, place: at }
 }

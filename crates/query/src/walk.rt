@@ -72,7 +72,7 @@ fn open_band(
     }
     let band = band_at(image, 9 - levels / 4, first);
     let root = cross(link);
-    let subtrie = next_subtrie(image, state, band, root);
+    let subtrie = next_subtrie(image, state, band.number, root);
     let next = subtrie.link;
     walk_subtrie(
         image,

@@ -1,29 +1,48 @@
--- `query::subtrie::next_level` meets its contract. The loop's invariant: what the bits passed have given. Assumes nothing.
+-- `query::subtrie::next_level` meets its contract. The loop's invariant: what the bits passed have given, and the window starts at the next node.
+-- Assumes nothing.
+use mathlib.Core.Path.{sym, _∙_}
 use native.Mathlib.Omega.{arith}
 use borrow.Author.Needs.{needs}
-use Rattle.query.proofs.Reading.{Reading, reading-start, reading-small, reading-on, reading-off, reading-room, reading-end}
+use Rattle.query.specs.Window.{Window}
+use Rattle.query.proofs.Reading.{Reading, bit-times, reading-start, reading-small, reading-next, reading-place, reading-room, reading-end}
+use Rattle.query.proofs.Windows.{window-less, window-top, window-next}
 use Rattle.query.proofs.subtrie.next_level.Statement.{statement}
 use Rattle.query.proofs.subtrie.next_level.Tie as tie
 
 abbrev Inv-loop : tie.InvT-loop
-Inv-loop page place set width bits₀ at₀ left₀ bits at left = Reading page set width place bits at left
+Inv-loop page place set width nodes₀ bits₀ at₀ left₀ nodes bits at left = (Reading page set width place bits at left) × (Window page at left nodes)
 
 abbrev μ-loop : tie.MeasureT-loop
-μ-loop page place set width bits₀ at₀ left₀ bits at left = left
+μ-loop page place set width nodes₀ bits₀ at₀ left₀ nodes bits at left = left
 
 loop-holds : tie.Need-loop-holds Inv-loop μ-loop
-loop-holds c = let p = c .before .pre in reading-start (p .0) (p .2) (p .3)
+loop-holds c =
+    let p = c .before .before .pre in
+    (reading-start (p .0) (p .3) (p .4), window-less (c .window .ensures) (omega arith))
 
-read-node-requires : tie.Need-read-node-requires Inv-loop μ-loop
-read-node-requires c κs =
-    let s = c .before .before .loop .inv in
-    omega (arith, s .long, reading-room s (c .before .loop-test .taken) (c .if1 .taken))
+-- on * node
+mul-bits-2 : tie.Need-mul-bits-2 Inv-loop μ-loop
+mul-bits-2 c = omega (arith, bit-times (c .before .bit .result) (c .top .result) (c .before .bit .ensures .1) (c .top .ensures .1))
+
+add-bits : tie.Need-add-bits Inv-loop μ-loop
+add-bits c =
+    let s = c .before .before .before .loop .inv .0 in
+    omega (arith, reading-small s (c .before .before .loop-test .taken), bit-times (c .before .bit .result) (c .top .result) (c .before .bit .ensures .1) (c .top .ensures .1))
+
+add-at : tie.Need-add-at Inv-loop μ-loop
+add-at c =
+    let s = c .before .before .before .loop .inv .0 in
+    omega (arith, reading-place s (c .before .before .loop-test .taken), c .before .bit .ensures .1)
 
 loop-again : tie.Need-loop-again Inv-loop μ-loop
-loop-again c = reading-on (c .before .before .before .loop .inv) (c .before .before .loop-test .taken) (c .before .if1 .taken) (c .read-node .ensures)
-
-loop-again-2 : tie.Need-loop-again-2 Inv-loop μ-loop
-loop-again-2 c = reading-off (c .before .before .loop .inv) (c .before .loop-test .taken) (c .if1 .left)
+loop-again c =
+    let s = c .before .before .before .loop .inv in
+    let more = c .before .before .loop-test .taken in
+    let b = c .before .bit .ensures in
+    let t = c .top .ensures in (
+      reading-next (s .0) more _ _ (b .0) (t .1) (λ on. t .0 ∙ window-top (s .1) more (reading-room (s .0) more (sym (b .0) ∙ on))),
+      window-next (s .1) (omega (arith, s .0 .to, s .0 .wide)) _ (b .1),
+    )
 
 pub next-level-spec : {M : Type 1} → statement M
 next-level-spec =
@@ -31,17 +50,19 @@ next-level-spec =
     (tie.spec
     Inv-loop
     μ-loop
+    (λ c κs. search needs)
     loop-holds
     (λ c. omega arith)
-    (λ c. omega (arith, reading-small (c .before .loop .inv) (c .loop-test .taken)))
-    (λ c. let s = c .before .loop .inv in omega (arith, s .to, s .wide))
-    (λ c. let s = c .before .loop .inv in omega (arith, s .to, s .wide))
-    read-node-requires
+    (λ c κs. let s = c .before .loop .inv .0 in omega (arith, s .to, s .wide))
+    (λ c. omega (arith, reading-small (c .before .before .loop .inv .0) (c .before .loop-test .taken)))
+    (λ c κs. search needs)
+    mul-bits-2
+    add-bits
+    (λ c. omega (arith, c .before .bit .ensures .1))
+    (λ c. omega (arith, c .before .bit .ensures .1))
+    (λ c. omega (arith, c .before .bit .ensures .1))
     (λ c. search needs)
-    (λ c. omega (arith, reading-small (c .before .before .before .loop .inv) (c .before .before .loop-test .taken), c .read-node .ensures, c .read-node .ok))
-    (λ c. omega (arith, reading-room (c .before .before .before .loop .inv) (c .before .before .loop-test .taken) (c .before .if1 .taken)))
+    add-at
     (λ c. omega arith)
     loop-again
-    (λ c. omega arith)
-    loop-again-2
-    (λ c. reading-end (c .before .loop .inv) (c .loop-test .left)))
+    (λ c. reading-end (c .before .loop .inv .0) (c .loop-test .left)))

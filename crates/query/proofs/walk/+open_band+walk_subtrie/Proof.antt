@@ -101,7 +101,7 @@ open-next-subtrie-requires t c κs =
     let p = c .before .before .before .before .before .before .before .before in
     let o = p .pre .1 .0 in
     let b = c .before .before .band-at .ensures in
-    (o .ready, b .0, root-there o (p .args .rectangle) (c .before .before .before .if2 .left) (b .1) (ap (λ x. x .0) (c .before .cross .ensures)), p .pre .1 .1)
+    (o .ready, b .0 .from, b .0 .to, root-there o (p .args .rectangle) (c .before .before .before .if2 .left) (b .1) (ap (λ x. x .0) (c .before .cross .ensures)), p .pre .1 .1)
 
 open-sub-walk-subtrie : (t : ℕ) → open-band-lts.Need-sub-walk-subtrie (open-calls t) (open-band-at t) open-band.Post
 open-sub-walk-subtrie t c = let i = c .before .before .before .before .before .before .before in omega (arith, i .if2 .left, i .before .before .before .before .before .pre .1 .0 .fours)
