@@ -9,10 +9,8 @@ use native.Mathlib.Decide.{decLe, decLt}
 use native.Mathlib.Omega.{arith}
 use borrow.Author.Tests.{le-leb, lt-leb, lt-ltb, le-ltb}
 use lib.Dec.{leb, ltb}
-use Rattle.format.specs.declared.Rectangle.{Rectangle}
 use Rattle.format.specs.Seq.{All, consIf, select}
 use Rattle.format.specs.Image.{keysOf}
-use Rattle.format.specs.Answer.{inside}
 use Rattle.format.proofs.Lists.{and-both}
 use Rattle.format.proofs.Trie.{Asc}
 use Rattle.format.proofs.Members.{asc-tail, above-mem, select-append, select-none}
@@ -85,36 +83,53 @@ unfolding select consIf
 all-between [] lo hi a = refl
 all-between (e ∷ l) lo hi a = rw (is-between lo hi e (a .0 .0) (a .0 .1)) (ap (e ∷_) (all-between l lo hi (a .1)))
 
--- ---- the members of a rectangle
+-- ---- the keys that pass a test
 
-outside-all : (rectangle : Rectangle) (lo hi : ℕ) → ((k : ℕ) → lo ≤ k → k < hi → inside rectangle k ≡ false) → (l : List ℕ) → All (λ k. inside rectangle k ≡ false) (select (between lo hi) l)
+failing-all : (f : ℕ → Bool) (lo hi : ℕ) → ((k : ℕ) → lo ≤ k → k < hi → f k ≡ false) → (l : List ℕ) → All (λ k. f k ≡ false) (select (between lo hi) l)
 unfolding select consIf
-outside-all rectangle lo hi f [] = tt
-outside-all rectangle lo hi f (e ∷ l) =
+failing-all f lo hi h [] = tt
+failing-all f lo hi h (e ∷ l) =
     elim (decLe lo e) [
-      | yes h ↦ elim (decLt e hi) [
-        | yes k ↦ rw (is-between lo hi e h k) (f e h k, outside-all rectangle lo hi f l)
-        | no k ↦ rw (is-after lo hi e (omega arith)) (outside-all rectangle lo hi f l)
+      | yes a ↦ elim (decLt e hi) [
+        | yes k ↦ rw (is-between lo hi e a k) (h e a k, failing-all f lo hi h l)
+        | no k ↦ rw (is-after lo hi e (omega arith)) (failing-all f lo hi h l)
       ]
-      | no h ↦ rw (is-before lo hi e (omega arith)) (outside-all rectangle lo hi f l)
+      | no a ↦ rw (is-before lo hi e (omega arith)) (failing-all f lo hi h l)
     ]
 
-module _ (img : List ℕ) (rectangle : Rectangle) where
-  pub members-split : (lo mid hi : ℕ) → Asc (keysOf img) → lo ≤ mid → mid ≤ hi → membersBetween img rectangle lo hi ≡ membersBetween img rectangle lo mid ++ membersBetween img rectangle mid hi
+-- two tests that agree between
+agree-all : (f g : ℕ → Bool) (lo hi : ℕ) → ((k : ℕ) → lo ≤ k → k < hi → f k ≡ g k) → (l : List ℕ) → select f (select (between lo hi) l) ≡ select g (select (between lo hi) l)
+unfolding select consIf
+agree-all f g lo hi h [] = refl
+agree-all f g lo hi h (e ∷ l) =
+    elim (decLe lo e) [
+      | yes a ↦ elim (decLt e hi) [
+        | yes k ↦ rw (is-between lo hi e a k, h e a k) (ap (consIf (g e) e) (agree-all f g lo hi h l))
+        | no k ↦ rw (is-after lo hi e (omega arith)) (agree-all f g lo hi h l)
+      ]
+      | no a ↦ rw (is-before lo hi e (omega arith)) (agree-all f g lo hi h l)
+    ]
+
+module _ (img : List ℕ) (f : ℕ → Bool) where
+  pub members-split : (lo mid hi : ℕ) → Asc (keysOf img) → lo ≤ mid → mid ≤ hi → membersBetween img f lo hi ≡ membersBetween img f lo mid ++ membersBetween img f mid hi
   unfolding membersBetween
-  members-split lo mid hi a h k = ap (select (inside rectangle)) (split-between (keysOf img) lo mid hi a h k) ∙ select-append (inside rectangle) (select (between lo mid) (keysOf img)) (select (between mid hi) (keysOf img))
+  members-split lo mid hi a h k = ap (select f) (split-between (keysOf img) lo mid hi a h k) ∙ select-append f (select (between lo mid) (keysOf img)) (select (between mid hi) (keysOf img))
 
   -- no key
-  pub members-none : (lo hi : ℕ) → ((k : ℕ) → List·Memᴰ k (keysOf img) → lo ≤ k → k < hi → ⊥) → membersBetween img rectangle lo hi ≡ []
+  pub members-none : (lo hi : ℕ) → ((k : ℕ) → List·Memᴰ k (keysOf img) → lo ≤ k → k < hi → ⊥) → membersBetween img f lo hi ≡ []
   unfolding membersBetween select
-  members-none lo hi f = ap (select (inside rectangle)) (none-between (keysOf img) lo hi f)
+  members-none lo hi h = ap (select f) (none-between (keysOf img) lo hi h)
 
-  -- no key inside
-  pub members-outside : (lo hi : ℕ) → ((k : ℕ) → lo ≤ k → k < hi → inside rectangle k ≡ false) → membersBetween img rectangle lo hi ≡ []
+  -- no key that passes
+  pub members-outside : (lo hi : ℕ) → ((k : ℕ) → lo ≤ k → k < hi → f k ≡ false) → membersBetween img f lo hi ≡ []
   unfolding membersBetween
-  members-outside lo hi f = select-none (inside rectangle) (select (between lo hi) (keysOf img)) (outside-all rectangle lo hi f (keysOf img))
+  members-outside lo hi h = select-none f (select (between lo hi) (keysOf img)) (failing-all f lo hi h (keysOf img))
 
-  -- a key inside
-  pub members-one : (k : ℕ) → Asc (keysOf img) → List·Memᴰ k (keysOf img) → inside rectangle k ≡ true → membersBetween img rectangle k (suc k) ≡ k ∷ []
+  -- a key that passes
+  pub members-one : (k : ℕ) → Asc (keysOf img) → List·Memᴰ k (keysOf img) → f k ≡ true → membersBetween img f k (suc k) ≡ k ∷ []
   unfolding membersBetween select consIf
-  members-one k a m e = ap (select (inside rectangle)) (one-between (keysOf img) k a m) ∙ rw e
+  members-one k a m e = ap (select f) (one-between (keysOf img) k a m) ∙ rw e
+
+  pub members-agree : (g : ℕ → Bool) (lo hi : ℕ) → ((k : ℕ) → lo ≤ k → k < hi → f k ≡ g k) → membersBetween img f lo hi ≡ membersBetween img g lo hi
+  unfolding membersBetween
+  members-agree g lo hi h = agree-all f g lo hi h (keysOf img)

@@ -19,13 +19,13 @@ use Rattle.query.proofs.Pages.{bytes, checked}
 use Rattle.query.proofs.Ranks.{Tested, member, stranger, tested, rank-first}
 
 -- the first on bit of a node
-record FirstBit (v : ℕ) : Type 0 where
-  t : ℕ
-  small : t ≤ 1
-  on : 1 ≤ bit t v
-  off : t ≡ 1 → v / 2 ≡ 0
+pub record FirstBit (v : ℕ) : Type 0 where
+  pub t : ℕ
+  pub small : t ≤ 1
+  pub on : 1 ≤ bit t v
+  pub off : t ≡ 1 → v / 2 ≡ 0
 
-first-bit : (v : ℕ) → 1 ≤ v → v ≤ 3 → FirstBit v
+pub first-bit : (v : ℕ) → 1 ≤ v → v ≤ 3 → FirstBit v
 first-bit v lo hi =
     elim (decLt v 2) [
       | yes h ↦ record { t = 1; small = omega arith; on = omega arith; off = λ e. omega arith }

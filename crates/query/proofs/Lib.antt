@@ -19,7 +19,9 @@ pub mod Windows
 pub mod Subtries
 pub mod Between
 pub mod Places
-pub mod Ends
+pub mod Blocks
+pub mod Placing
+pub mod Endings
 pub mod Steps
 pub mod Whole
 pub mod Jobs
@@ -29,3 +31,4 @@ pub mod Single
 pub mod Skips
 pub mod Kept
 pub mod Walked
+pub mod Chains

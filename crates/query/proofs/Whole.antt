@@ -2,22 +2,27 @@
 -- Assumes nothing.
 use mathlib.Core.Bool.{Bool, true, false}
 use mathlib.Core.List.{List, [], _∷_}
-use mathlib.Core.Path.{_≡_, refl, ap}
+use mathlib.Core.Path.{_≡_, refl, sym, ap, subst, _∙_}
 use Prim.Native.Nat.{ℕ, suc, _+_, _*_, _^_, _≤_, _<_}
 use native.Mathlib.Omega.{arith}
 use lib.ListN.{length}
 use Rattle.format.specs.declared.Rectangle.{Rectangle}
-use Rattle.format.specs.Seq.{All, consIf, select, total}
-use Rattle.format.specs.Image.{keyCount, keysOf, pageNumber, pagesBefore}
+use Rattle.format.specs.Seq.{All, consIf, select}
+use Rattle.format.specs.Image.{keyCount, keysOf}
 use Rattle.format.specs.Answer.{inside, memberKeys}
 use Rattle.format.specs.Exact.{Accepted}
 use Rattle.format.proofs.Accepted.{facts}
+use Rattle.format.proofs.Cells.{Covers}
 use Rattle.format.proofs.Depth.{no-keys-listed}
 use Rattle.format.proofs.Trie.{Fits}
 use Rattle.format.proofs.Levels.{prefixesAt}
+use Rattle.query.specs.declared.block.Place.{Place}
+use Rattle.query.specs.declared.block.Place.the-variants.{Inside}
+use Rattle.query.specs.Block.{PlaceRight}
 use Rattle.query.specs.Page.{Ready}
-use Rattle.query.specs.Walk.{Opening, membersBetween}
+use Rattle.query.specs.Walk.{Opening, every, membersBetween}
 use Rattle.query.proofs.Between.{all-between}
+use Rattle.query.proofs.Steps.{members-every}
 
 select-few : (f : ℕ → Bool) (l : List ℕ) → length (select f l) ≤ length l
 unfolding select
@@ -27,6 +32,15 @@ select-few f (x ∷ l) = go (f x) (select f l) (select-few f l)
     go : (b : Bool) (xs : List ℕ) → length xs ≤ length l → length (consIf b x xs) ≤ suc (length l)
     go true xs h = unfold consIf in omega arith
     go false xs h = unfold consIf in omega arith
+
+select-every : (l : List ℕ) → select every l ≡ l
+unfolding select consIf
+select-every [] = refl
+select-every (k ∷ l) = ap (k ∷_) (select-every l)
+
+within : (l : List ℕ) → Fits 32 l → All (λ k. (0 ≤ k) × (k < 4294967296)) l
+within [] f = tt
+within (k ∷ l) f = ((omega arith, f .0), within l (f .1))
 
 pub image-long : {img : List ℕ} → Accepted img → 64 ≤ length img
 image-long {img} a = facts img a .questions .header .long
@@ -48,23 +62,24 @@ module _ {img : List ℕ} (a : Accepted img) (rectangle : Rectangle) where
   no-members z = ap (select (inside rectangle)) (no-keys-listed img (a .bytes) (facts img a .questions) z)
 
   -- every key is one of 32 bits
-  pub members-whole : membersBetween img rectangle (0 * 2 ^ 32) ((0 + 1) * 2 ^ 32) ≡ memberKeys img rectangle
+  pub members-whole : membersBetween img (inside rectangle) (0 * 2 ^ 32) ((0 + 1) * 2 ^ 32) ≡ memberKeys img rectangle
   unfolding membersBetween memberKeys
-  members-whole = ap (select (inside rectangle)) (all-between (keysOf img) 0 4294967296 (go (keysOf img) (facts img a .keys .fits)))
-    where
-      go : (l : List ℕ) → Fits 32 l → All (λ k. (0 ≤ k) × (k < 4294967296)) l
-      go [] f = tt
-      go (k ∷ l) f = ((omega arith, f .0), go l (f .1))
+  members-whole = ap (select (inside rectangle)) (all-between (keysOf img) 0 4294967296 (within (keysOf img) (facts img a .keys .fits)))
+
+  -- the whole square
+  module _ (p : Covers rectangle 32 0) where
+    pub members-all : memberKeys img rectangle ≡ membersBetween img every (0 * 2 ^ 32) ((0 + 1) * 2 ^ 32)
+    members-all = sym members-whole ∙ members-every img rectangle 32 0 p
+
+    pub count-all : length (memberKeys img rectangle) ≡ keyCount img
+    unfolding membersBetween
+    count-all = ap length (members-all ∙ ap (select every) (all-between (keysOf img) 0 4294967296 (within (keysOf img) (facts img a .keys .fits))) ∙ select-every (keysOf img)) ∙ facts img a .keys .count-is
+
+-- the block of all keys
+pub whole-covers : (rectangle : Rectangle) {x : ℕ} {p : Place} → PlaceRight rectangle 32 x p → p ≡ Inside → x ≡ 0 → Covers rectangle 32 0
+whole-covers rectangle r e z = subst (Covers rectangle 32) z (rw e at r)
 
 -- the way into band 1
-pub opening-start : {img : List ℕ} → Ready img → Opening img 32 1 0 0
-unfolding pageNumber pagesBefore total prefixesAt Rattle.format.specs.Trie.descend Rattle.format.specs.Seq.numbersFrom
-opening-start r =
-    record {
-      ready = r;
-      small = omega arith;
-      fours = refl;
-      first-is = refl;
-      short = omega arith;
-      at = record { within = omega arith; prefix = refl };
-    }
+pub opening-start : {img : List ℕ} → Ready img → Opening img 1 0 0
+unfolding prefixesAt Rattle.format.specs.Trie.descend
+opening-start r = record { ready = r; from = omega arith; to = omega arith; short = omega arith; at = record { within = omega arith; prefix = refl } }

@@ -7,3 +7,4 @@ pub mod Walk
 pub mod Outcomes
 pub mod Cell
 pub mod Window
+pub mod Block

@@ -1,4 +1,5 @@
 // Lookup, count, listing and finding by rank. Each job asks 1 to 13 by itself first.
+mod block;
 mod climb;
 mod page;
 mod select;

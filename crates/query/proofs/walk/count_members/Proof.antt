@@ -1,15 +1,33 @@
 -- `query::walk::count_members` meets its contract. Assumes nothing.
+use mathlib.Core.Path.{sym, _∙_}
 use native.Mathlib.Omega.{arith}
 use borrow.Author.Needs.{needs}
-use Rattle.query.proofs.Whole.{members-few}
+use Rattle.format.specs.Image.{keyCount}
+use Rattle.query.proofs.Whole.{count-all, image-long, members-few, whole-covers}
 use Rattle.query.proofs.walk.count_members.Statement.{statement}
 use Rattle.query.proofs.walk.count_members.Tie as tie
 
+place-of-requires : tie.Need-place-of-requires
+place-of-requires c κs = (omega arith, c .whole .ensures .1, rw (c .whole .ensures .0) (omega arith))
+
+number-at-requires : tie.Need-number-at-requires
+number-at-requires c κs = omega (arith, image-long (c .before .before .before .before .before .pre))
+
 returns : tie.Need-returns
+unfolding keyCount
 returns c =
-    let s = c .before .before .before .before in
+    let m = c .before .before .before in
+    let s = m .before .before .before in
+    let p = whole-covers (s .args .rectangle) (m .place-of .ensures) (c .before .enum-told .given .1) (m .before .whole .ensures .0) in
+    let e = count-all (s .pre) (s .args .rectangle) p in
+    (omega (arith, c .number-at .ensures .0, e), omega (arith, c .number-at .ensures .0, e, members-few (s .pre) (s .args .rectangle)))
+
+returns-2 : tie.Need-returns-2
+returns-2 c =
+    let s = c .before .before .before .before .before .before .before in
     let e = c .before .list-members .ensures .count in
     (omega arith, omega (arith, members-few (s .pre) (s .args .rectangle)))
 
 pub count-members-spec : {M : Type 1} → statement M
-count-members-spec = tie.close (tie.spec (λ c. search needs) (λ c κs. search needs) returns)
+count-members-spec =
+    tie.close (tie.spec (λ c κs. search needs) place-of-requires (λ c. search needs) number-at-requires (λ c. search needs) (λ c κs. search needs) returns returns-2)

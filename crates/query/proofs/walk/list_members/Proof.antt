@@ -1,13 +1,19 @@
 -- `query::walk::list_members` meets its contract. Assumes nothing.
+use mathlib.Core.Path.{_≡_, sym, ap, subst, _∙_}
+use Prim.Native.Nat.{ℕ}
 use native.Mathlib.Omega.{arith}
-use mathlib.Core.Path.{sym, ap, _∙_}
 use borrow.Author.Needs.{needs}
 use lib.ListN.{length}
+use Rattle.format.specs.declared.Rectangle.{Rectangle}
 use Rattle.format.specs.Image.{keyCount}
+use Rattle.format.proofs.Cells.{Covers}
+use Rattle.query.specs.declared.block.Place.{Place}
+use Rattle.query.specs.declared.block.Place.the-variants.{Inside}
+use Rattle.query.specs.Block.{PlaceRight}
 use Rattle.query.proofs.Kept.{no-spots}
 use Rattle.query.proofs.Places.{listed-none}
 use Rattle.query.proofs.Steps.{listed-same}
-use Rattle.query.proofs.Whole.{image-long, ready-of, no-members, members-few, members-whole, opening-start}
+use Rattle.query.proofs.Whole.{image-long, ready-of, no-members, members-all, members-few, members-whole, opening-start, whole-covers}
 use Rattle.query.proofs.walk.list_members.Statement.{statement}
 use Rattle.query.proofs.walk.list_members.Tie as tie
 
@@ -18,21 +24,60 @@ returns : tie.Need-returns
 unfolding keyCount
 returns c = let s = c .before .before .before .before in listed-none (no-members (s .pre) _ (sym (c .before .number-at .ensures .0) ∙ c .if1 .taken))
 
+place-of-requires : tie.Need-place-of-requires
+place-of-requires c κs = (omega arith, c .whole .ensures .1, rw (c .whole .ensures .0) (omega arith))
+
+open-inside-requires : tie.Need-open-inside-requires
+unfolding keyCount
+open-inside-requires c κs =
+    let m = c .before .before .before .before in
+    let n = m .before .before .before in
+    let s = n .before .before .before in
+    let p = whole-covers (s .args .rectangle) (m .place-of .ensures) (c .before .before .enum-told .given .1) (m .before .whole .ensures .0) in (
+      opening-start (ready-of (s .pre) (λ z. m .before .before .if1 .left (n .number-at .ensures .0 ∙ z))),
+      no-spots (s .args .image .now),
+      omega (arith, ap length (members-all (s .pre) (s .args .rectangle) p), members-few (s .pre) (s .args .rectangle)),
+    )
+
 open-band-requires : tie.Need-open-band-requires
 unfolding keyCount
 open-band-requires c κs =
-    let n = c .before .before .before in
+    let m = c .before .before .before .before in
+    let n = m .before .before .before in
     let s = n .before .before .before in
-    let w = members-whole (s .pre) (s .args .rectangle) in (
-      opening-start (ready-of (s .pre) (λ z. c .before .before .if1 .left (n .number-at .ensures .0 ∙ z))),
+    let e = c .whole2 .ensures .0 in (
+      rw e (opening-start (ready-of (s .pre) (λ z. m .before .before .if1 .left (n .number-at .ensures .0 ∙ z)))),
+      omega arith,
+      c .whole2 .ensures .1,
       no-spots (s .args .image .now),
-      omega (arith, ap length w, members-few (s .pre) (s .args .rectangle)),
+      rw e (omega (arith, ap length (members-whole (s .pre) (s .args .rectangle)), members-few (s .pre) (s .args .rectangle))),
     )
 
 returns-2 : tie.Need-returns-2
 returns-2 c =
-    let s = c .before .before .before .before .before .before .before .before .before in
-    listed-same (sym (members-whole (s .pre) (s .args .rectangle))) (c .before .before .open-band .ensures .0)
+    let m = c .before .before .before .before .before .before .before in
+    let s = m .before .before .before .before .before .before in
+    let p = whole-covers (s .args .rectangle) (m .place-of .ensures) (c .before .before .before .before .before .enum-told .given .1) (m .before .whole .ensures .0) in
+    listed-same (members-all (s .pre) (s .args .rectangle) p) (c .before .before .open-inside .ensures .0)
+
+returns-3 : tie.Need-returns-3
+returns-3 c =
+    let s = c .before .before .before .before .before .before .before .before .before .before .before .before .before in
+    listed-same (sym (members-whole (s .pre) (s .args .rectangle))) (rw (c .before .before .before .whole2 .ensures .0) at (c .before .before .open-band .ensures .0))
 
 pub list-members-spec : {M : Type 1} → statement M
-list-members-spec = tie.close (tie.spec number-at-requires returns open-band-requires (λ c. search needs) returns-2)
+list-members-spec =
+    tie.close
+    (tie.spec
+    number-at-requires
+    returns
+    (λ c κs. search needs)
+    place-of-requires
+    (λ c. search needs)
+    open-inside-requires
+    (λ c κs. search needs)
+    open-band-requires
+    (λ c. search needs)
+    returns-2
+    (λ c. search needs)
+    returns-3)

@@ -1,0 +1,13 @@
+-- `query::walk::first_on` meets its contract. Assumes nothing.
+use Rattle.query.proofs.Endings.{first-found}
+use Rattle.query.proofs.walk.first_on.Statement.{statement}
+use Rattle.query.proofs.walk.first_on.Tie as tie
+
+sub-result : tie.Need-sub-result
+sub-result c = first-found (c .args .set) (c .pre .0) (c .pre .1) .0
+
+returns : tie.Need-returns
+returns c = first-found (c .args .set) (c .pre .0) (c .pre .1) .1
+
+pub first-on-spec : {M : Type 1} → statement M
+first-on-spec = tie.close (tie.spec sub-result returns)
