@@ -55,7 +55,8 @@ pub band-four : (m : ℕ) (keys : List ℕ) → length (bandOver m keys) ≡ 4
 unfolding bandOver
 band-four m keys = refl
 
-parents-heads : (m : ℕ) (xs : List ℕ) → parents (heads m xs) ≡ heads (suc m) xs
+-- one parent more
+pub parents-heads : (m : ℕ) (xs : List ℕ) → parents (heads m xs) ≡ heads (suc m) xs
 unfolding heads
 parents-heads zero xs = refl
 parents-heads (suc m) xs = parents-heads m (parents xs)

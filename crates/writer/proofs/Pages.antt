@@ -14,6 +14,7 @@ use Rattle.format.proofs.Trie.{Asc}
 use Rattle.format.proofs.Bytes.{length-flatten, length-nodeBytes}
 use Rattle.format.proofs.Members.{of-ascending}
 use Rattle.format.proofs.RunHeads.{heads, heads-of}
+use Rattle.format.proofs.Runs.{parents-heads}
 use Rattle.writer.specs.declared.page.Level.{Level}
 use Rattle.writer.specs.Run.{bandAbove, rootsAbove}
 use Rattle.writer.specs.Page.{nodesOf, withNodes, LevelRoom, LevelDone, LevelsRoom, LevelsDone}
@@ -114,11 +115,6 @@ upwards q (suc k) j = length (nodesOver (heads j q)) + upwards q k (suc j)
 abbrev lastLevels : List ℕ → ℕ → ℕ → List ℕ
 lastLevels q count zero = replicate (240 - count) 0
 lastLevels q count (suc j) = nodesOver (heads j q) ++ lastLevels q count j
-
-parents-heads : (m : ℕ) (xs : List ℕ) → parents (heads m xs) ≡ heads (suc m) xs
-unfolding heads
-parents-heads zero xs = refl
-parents-heads (suc m) xs = parents-heads m (parents xs)
 
 -- j levels are done, and k are left
 pub record Reached (page₀ q : List ℕ) (count k j : ℕ) (page keys : List ℕ) (from n : ℕ) : Type 0 where
