@@ -86,7 +86,14 @@ fn advance(image: &[u8], state: &mut [usize; 64], number: usize) -> Subtrie
             if three != 3 {
                 let four = node(bytes, fourth);
                 let out = link.0 + on_bits(four);
-                move_starts(state, number, second + 1, third + 1, fourth + 1, out);
+                move_starts(
+                    state,
+                    number,
+                    second + 1,
+                    third + 1,
+                    fourth + 1,
+                    OutLink(out),
+                );
                 return Subtrie {
                     set: path_set(one, two, three, four),
                     link,
@@ -98,7 +105,14 @@ fn advance(image: &[u8], state: &mut [usize; 64], number: usize) -> Subtrie
     let four = next_level(bytes, third, two.bits, 4);
     let last = next_level(bytes, fourth, four.bits, 8);
     let out = link.0 + ones_of(last.bits as u64);
-    move_starts(state, number, two.place, four.place, last.place, out);
+    move_starts(
+        state,
+        number,
+        two.place,
+        four.place,
+        last.place,
+        OutLink(out),
+    );
     Subtrie {
         set: last.bits,
         link,

@@ -59,14 +59,14 @@ pub fn move_starts(
     second: usize,
     third: usize,
     fourth: usize,
-    link: usize,
+    link: OutLink,
 )
     requires { ⌜ (1 ≤ number) × (number ≤ 8) ⌝ }
-    ensures { λ r. ⌜ now (state .exit) ≡ withStarts (now (state .entry)) (8 * (number - 1)) second third fourth link ⌝ }
+    ensures { λ r. ⌜ now (state .exit) ≡ withStarts (now (state .entry)) (8 * (number - 1)) second third fourth (link .0) ⌝ }
 {
     let e = 8 * (number - 1);
     state[e + 4] = second;
     state[e + 5] = third;
     state[e + 6] = fourth;
-    state[e + 7] = link;
+    state[e + 7] = link.0;
 }
