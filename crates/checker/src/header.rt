@@ -48,7 +48,7 @@ pub fn root_count(image: &[u8], band: usize) -> usize
 }
 
 // The pages of all bands.
-pub fn total_pages(image: &[u8]) -> usize
+fn total_pages(image: &[u8]) -> usize
     requires { ⌜ 64 ≤ length (now image) ⌝ }
     ensures { λ r. ⌜ (r ≡ total (map (pageCount (now (image .entry))) bands)) × (r < 524288) ⌝ }
 {
