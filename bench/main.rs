@@ -282,6 +282,8 @@ fn rows(d: &'static Data, both: &[Jobs]) -> Vec<Row> {
             Some(case("sorted array", 32, { let mut o = vec![0u32; N]; move || qs[..32].iter().map(|&q| { let mut n = 0; in_rect(bb(&d.keys), q, |k| { o[n] = k; n += 1; }); n as u64 }).sum() })));
     }
     let whole = Rect { h0: 0, h1: 65535, s0: 0, s1: 65535 };
+    add("count, whole square", &|j| { let f = j.count; case(j.name, 1, move || f(bb(img), whole) as u64) },
+        Some(case("sorted array", 1, move || bb(&d.keys).len() as u64)));
     add("list, whole square", &|j| { let (f, mut o) = (j.list, vec![0u32; N]); case(j.name, 1, move || f(bb(img), whole, &mut o) as u64) },
         Some(case("sorted array", 1, { let mut o = vec![0u32; N]; move || { o.copy_from_slice(bb(&d.keys)); bb(&o)[7] as u64 } })));
     add("scan that opens", &|j| { let (f, mut rec, mut t) = (j.scan, vec![0u32; N + 1], 0u32);
