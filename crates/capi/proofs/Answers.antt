@@ -1,17 +1,15 @@
 -- The numbers that the jobs return are small, and what each answer is as C gets it.
 -- Assumes nothing.
-use mathlib.Core.Path.{_≡_, refl, sym, ap, ap₂, _∙_}
-use mathlib.Core.Bool.{Bool, true, false}
+use mathlib.Core.Path.{_≡_, refl, ap}
 use mathlib.Core.List.{List, [], _∷_, _++_}
-use Prim.Native.Nat.{ℕ, _+_, _*_, _≤_, _<_}
+use Prim.Native.Nat.{ℕ, _+_, _≤_}
 use native.Mathlib.Omega.{arith}
-use lib.IntN.{ℤ, pos, negℤ}
 use lib.ListN.{length, getD}
 use Rattle.format.specs.declared.Rectangle.{Rectangle}
-use Rattle.format.specs.Seq.{All, consIf, select}
+use Rattle.format.specs.Seq.{All}
 use Rattle.format.specs.Page.{Byte}
 use Rattle.format.specs.Image.{keyCount, keysOf}
-use Rattle.format.specs.Question.{Outcome, Question, Yes, firstNo, imageQuestions, returns, settle}
+use Rattle.format.specs.Question.{Question, Yes, imageQuestions, returns, settle}
 use Rattle.format.specs.Answer.{check, count, inside, listing, memberKeys}
 use Rattle.format.proofs.Lists.{all-left}
 use Rattle.format.proofs.Members.{select-short}

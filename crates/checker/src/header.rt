@@ -1,7 +1,7 @@
 // The header's numbers, and questions 1 to 7. The other jobs read the header through these functions too.
 ghost use mathlib.Core.Path.{_≡_};
 ghost use mathlib.Core.List.{map};
-ghost use Prim.Native.Nat.{_+_, _-_, _*_, _%_, _≤_, _<_};
+ghost use Prim.Native.Nat.{_+_, _-_, _%_, _≤_, _<_};
 ghost use lib.ListN.{length, take, drop};
 ghost use Rattle.format.specs.Seq.{every, numbersFrom, total};
 ghost use Rattle.format.specs.Page.{numberAt};

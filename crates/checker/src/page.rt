@@ -3,7 +3,7 @@ use crate::header::number;
 use format::OutLink;
 use format::Root;
 ghost use mathlib.Core.Path.{_≡_};
-ghost use Prim.Native.Nat.{_+_, _-_, _≤_};
+ghost use Prim.Native.Nat.{_+_, _≤_};
 ghost use lib.ListN.{length};
 ghost use Rattle.checker.specs.Paged.{pairsAt, Shaped, PageAsked};
 

@@ -9,16 +9,9 @@ use lib.Dec.{leb}
 use borrow.Author.Tests.{lt-leb, le-leb}
 use Rattle.format.specs.declared.Range.{Range}
 use Rattle.format.specs.declared.Rectangle.{Rectangle}
-use Rattle.format.specs.Seq.{All, select}
 use Rattle.format.specs.Key.{gather, holderOf, slotOf}
-use Rattle.format.specs.Page.{Byte}
-use Rattle.format.specs.Image.{keyCount}
 use Rattle.format.specs.Answer.{contains, inside, isWithin}
-use mathlib.Core.List.{List, []}
-use Rattle.format.proofs.Lists.{all-to, and-both}
-use Rattle.format.proofs.Members.{select-none, select-whole}
-use Rattle.format.proofs.Checked.{Checked}
-use Rattle.format.proofs.Depth.{keysUnder, keys-prefix}
+use Rattle.format.proofs.Lists.{and-both}
 
 -- the first and the last key with prefix x, w bits to come
 abbrev pub lowest : ℕ → ℕ → ℕ
@@ -154,14 +147,3 @@ covers-inside rectangle w x k p e =
     let c = holder-cell w x k l u in
     let d = slot-cell w x k l u in
     and-both (within-range (rectangle .holders) (holderOf k) (omega arith) (omega arith)) (within-range (rectangle .slots) (slotOf k) (omega arith) (omega arith))
-
--- what a listing takes from below a node
-pub members-apart : (img : List ℕ) → All Byte img → Checked img → 1 ≤ keyCount img → (rectangle : Rectangle) (d n x : ℕ) → d ≤ 32 → Apart rectangle (32 - d) x → select (inside rectangle) (keysUnder img d n x) ≡ []
-members-apart img a c some rectangle d n x le p =
-    select-none (inside rectangle) (keysUnder img d n x)
-    (all-to (λ k. k / 2 ^ (32 - d) ≡ x) (λ k. inside rectangle k ≡ false) (λ k e. apart-outside rectangle (32 - d) x k p e) (keysUnder img d n x) (keys-prefix img a c some d n x le))
-
-pub members-covered : (img : List ℕ) → All Byte img → Checked img → 1 ≤ keyCount img → (rectangle : Rectangle) (d n x : ℕ) → d ≤ 32 → Covers rectangle (32 - d) x → select (inside rectangle) (keysUnder img d n x) ≡ keysUnder img d n x
-members-covered img a c some rectangle d n x le p =
-    select-whole (inside rectangle) (keysUnder img d n x)
-    (all-to (λ k. k / 2 ^ (32 - d) ≡ x) (λ k. inside rectangle k ≡ true) (λ k e. covers-inside rectangle (32 - d) x k p e) (keysUnder img d n x) (keys-prefix img a c some d n x le))

@@ -8,7 +8,7 @@ use native.Mathlib.Omega.{arith}
 use lib.ListN.{getD, take, drop}
 use lib.Seq.{take-add, drop-drop, take-take}
 use Rattle.format.specs.Seq.{every}
-use Rattle.format.specs.Trie.{bits, onBits}
+use Rattle.format.specs.Trie.{onBits}
 use Rattle.format.specs.Page.{firstSubtries, levelsIn, nodeCount}
 use Rattle.format.specs.Image.{outLinkCount, pageLevels, pageNodes, pagePairs, pageRoots}
 use Rattle.format.specs.Question.{isPositive}
@@ -25,10 +25,7 @@ marks-add ps n m = ap onBits (take-add n m ps) ∙ onBits-append (take n ps) (ta
 pub marks-mono : (ps : List ℕ) (n m : ℕ) → n ≤ m → marks ps n ≤ marks ps m
 marks-mono ps n m h = let e : n + (m - n) ≡ m = omega arith in omega (arith, ap (marks ps) e, marks-add ps n (m - n))
 
--- where the second, third and fourth levels of a page of r roots start, and where the fourth ends
-abbrev pub secondAt : List ℕ → ℕ → ℕ
-secondAt ps r = r
-
+-- where the third and the fourth level of a page of r roots start, and where the fourth ends
 abbrev pub thirdAt : List ℕ → ℕ → ℕ
 thirdAt ps r = r + marks ps r
 

@@ -16,7 +16,7 @@ use Rattle.format.proofs.Lists.{all-append}
 use Rattle.format.proofs.Trie.{Shape, Nodes}
 use Rattle.format.proofs.Checked.{Checked}
 use Rattle.format.proofs.Back.{image-shape, image-32}
-use Rattle.format.proofs.Descent.{bit, childAt, node-at, onBits-suc, length-below, halve}
+use Rattle.format.proofs.Descent.{childAt, node-at, onBits-suc, length-below, halve}
 use Rattle.format.proofs.Levels.{levelAt, depth, one-root}
 use Rattle.format.proofs.Walk.{Reached, reached-node}
 

@@ -14,7 +14,7 @@ use lib.ListN.{length, getD, take, drop}
 use lib.Seq.{getD-append-add, length-take-le}
 use Rattle.format.specs.Seq.{consIf, isIn, rankIn, select}
 use Rattle.format.specs.Trie.{below, bits, descend, onBits}
-use Rattle.format.proofs.Trie.{Above, Asc, Nodes, Shape, level}
+use Rattle.format.proofs.Trie.{Above, Asc, Nodes, Shape}
 use Rattle.format.proofs.Subtries.{nodes-take}
 use Rattle.format.proofs.Members.{asc-tail}
 
@@ -63,10 +63,6 @@ consIf-append false x l m = refl
 consIf-on : (b x : ℕ) (l : List ℕ) → 1 ≤ b → b ≤ 1 → consIf (eqb b 1) x l ≡ x ∷ l
 unfolding consIf
 consIf-on b x l h k = rw (eq-eqb b 1 (omega arith))
-
-consIf-off : (b x : ℕ) (l : List ℕ) → b ≡ 0 → consIf (eqb b 1) x l ≡ l
-unfolding consIf
-consIf-off b x l h = rw (ne-eqb b 1 (λ e. omega arith))
 
 length-consIf : (b x : ℕ) (l : List ℕ) → b ≤ 1 → length (consIf (eqb b 1) x l) ≡ b + length l
 unfolding consIf

@@ -1,9 +1,9 @@
 -- Demand 3: there is one image per list. The statement is specs/Exact.antt.
 -- Assumes nothing.
 use mathlib.Core.Path.{_≡_, refl, sym, ap, _∙_, subst}
-use mathlib.Core.Bool.{true, _&&_}
+use mathlib.Core.Bool.{true}
 use mathlib.Core.Option.{Option, none}
-use mathlib.Core.List.{List, [], _∷_, _++_, List·Memᴰ, Memᴰ·cast}
+use mathlib.Core.List.{List, [], _∷_, List·Memᴰ, Memᴰ·cast}
 use Prim.Native.Nat.{ℕ, _≤_}
 use native.Mathlib.Omega.{arith}
 use borrow.Author.Tests.{leb-true}
@@ -16,7 +16,7 @@ use Rattle.format.specs.Image.{keysOf, listOf}
 use Rattle.format.specs.Question.{Outcome, Yes, filled, firstNo, imageQuestions, outcome, returns, settle}
 use Rattle.format.specs.Writer.{bufferAfterWrite, bufferAfterWriteKeys, imageOf, listQuestions, roomQuestion, write, writeKeys}
 use Rattle.format.specs.Answer.{bufferAfterListing, contains, inside, listing, memberKeys, placesQuestion, rectangleQuestion}
-use Rattle.format.specs.Exact.{Accepted, AgreeOn, Exact, FilledIn, InOrder, ListedAlike, LongEnough, wholeSquare}
+use Rattle.format.specs.Exact.{AgreeOn, Exact, FilledIn, InOrder, ListedAlike, LongEnough, wholeSquare}
 use Rattle.format.proofs.Lists.{and-both}
 use Rattle.format.proofs.Questions.{yes-of-none, none-of-yes, after-yes}
 use Rattle.format.proofs.Trie.{Asc, Fits}

@@ -3,7 +3,7 @@
 use mathlib.Core.Path.{_≡_, refl, sym, ap, _∙_}
 use mathlib.Core.Bool.{Bool, true, false, _||_, cond}
 use mathlib.Core.List.{List, [], _∷_, _++_}
-use Prim.Native.Nat.{ℕ, zero, suc, _+_, _<_, _≤_}
+use Prim.Native.Nat.{ℕ, zero, suc, _+_, _<_}
 use native.Mathlib.Omega.{arith}
 use native.Mathlib.Decide.{ℕ-discrete}
 use lib.Dec.{eqb, ltb}
@@ -19,27 +19,14 @@ use Rattle.format.specs.Scan.{opened, openingsPlace, recordsAfter, recor
 use Rattle.format.specs.History.{Card, Opening, afterCard, afterCards, openingOf, openings, recordAfter, scanOf}
 use Rattle.format.proofs.Lists.{all-left, all-right}
 use Rattle.format.proofs.Questions.{none-of-yes, yes-of-none}
+use Rattle.format.proofs.Members.{rank-le}
 use Rattle.format.proofs.Checked.{checked, cond-no, cond-yes}
 use Rattle.format.proofs.Back.{listed}
 use Rattle.format.proofs.Jobs.{yes-of-returns}
 
 -- ---- one scan
 
--- a refused scan changes nothing
-pub refused-keeps : (img records : List ℕ) (card : Card) (n : ℕ) → scanOf img records card ≡ refused n → afterCard img records card ≡ records
-unfolding recordsAfterScan recordsAfter
-refused-keeps img records card n e = rw e
-
 -- the rank of an element is below the length
-rank-le : (xs : List ℕ) (x : ℕ) → rankIn xs x ≤ length xs
-unfolding rankIn select consIf
-rank-le [] x = omega arith
-rank-le (y ∷ ys) x = go (ltb y x) (rank-le ys x)
-  where
-    go : (t : Bool) → length (select (λ z. ltb z x) ys) ≤ length ys → length (consIf t y (select (λ z. ltb z x) ys)) ≤ suc (length ys)
-    go true h = omega arith
-    go false h = omega arith
-
 pub rank-below : (xs : List ℕ) (x : ℕ) → isIn x xs ≡ true → rankIn xs x < length xs
 unfolding rankIn select consIf isIn
 rank-below [] x h = absurd (let z : _≡_ {A = ℕ} 0 1 = cc in omega arith)

@@ -1,6 +1,6 @@
 -- Weaving and unweaving undo each other; spreads and gathered bits in parts; sizes.
 -- Assumes nothing.
-use mathlib.Core.Path.{_≡_, refl, sym, ap, ap₂, _∙_}
+use mathlib.Core.Path.{_≡_, sym, ap, ap₂, _∙_}
 use Prim.Native.Nat.{ℕ, zero, suc, _+_, _*_, _/_, _%_, _^_, _<_}
 use native.Mathlib.Nat.{pow-suc, pow-succ', mul-assoc, mul-left-comm, div-div-eq-div-mul, zero-add, suc-add}
 use native.Mathlib.Omega.{arith}

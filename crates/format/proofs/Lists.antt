@@ -87,10 +87,6 @@ module _ {A B : Type 0} where
   all-map f P [] h = tt
   all-map f P (x ∷ l) h = (h .0, all-map f P l (h .1))
 
-  pub map-all : (f : A → B) (P : B → Type 0) (l : List A) → All P (map f l) → All (λ x. P (f x)) l
-  map-all f P [] h = tt
-  map-all f P (x ∷ l) h = (h .0, map-all f P l (h .1))
-
   pub all-flatMap : (f : A → List B) (P : B → Type 0) (l : List A) → All (λ x. All P (f x)) l → All P (flatMap f l)
   unfolding flatMap
   all-flatMap f P [] h = tt

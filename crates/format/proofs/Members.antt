@@ -9,7 +9,7 @@ use lib.ListN.{length}
 use native.Mathlib.Omega.{arith}
 use lib.Dec.{ltb}
 use borrow.Author.Tests.{ltb-true, lt-ltb}
-use Rattle.format.specs.Seq.{All, consIf, select}
+use Rattle.format.specs.Seq.{All, consIf, rankIn, select}
 use Rattle.format.specs.Key.{Admissible, holderOf, keyOf, slotOf, unwoven, woven}
 use Rattle.format.specs.Writer.{ascending}
 use Rattle.format.proofs.Lists.{and-left, and-right, and-both}
@@ -171,11 +171,6 @@ unfolding select consIf
 select-none f [] h = refl
 select-none f (x ∷ l) h = rw (h .0) (select-none f l (h .1))
 
-pub select-whole : (f : ℕ → Bool) (l : List ℕ) → All (λ k. f k ≡ true) l → select f l ≡ l
-unfolding select consIf
-select-whole f [] h = refl
-select-whole f (x ∷ l) h = rw (h .0) (ap (x ∷_) (select-whole f l (h .1)))
-
 -- no more elements than there were
 pub select-short : (f : ℕ → Bool) (xs : List ℕ) → length (select f xs) ≤ length xs
 unfolding select consIf
@@ -185,3 +180,7 @@ select-short f (x ∷ xs) = go (f x) (select-short f xs)
     go : (t : Bool) → length (select f xs) ≤ length xs → length (consIf t x (select f xs)) ≤ suc (length xs)
     go true h = omega arith
     go false h = omega arith
+
+pub rank-le : (xs : List ℕ) (x : ℕ) → rankIn xs x ≤ length xs
+unfolding rankIn
+rank-le xs x = select-short (λ z. ltb z x) xs

@@ -12,7 +12,7 @@ use lib.Seq.{getD-append-add, take-append-add, take-append-le}
 use Rattle.format.specs.Seq.{lastBelow, numbersFrom, total}
 use Rattle.format.specs.Trie.{onBits}
 use Rattle.format.specs.Page.{nodeCount}
-use Rattle.format.proofs.Trie.{Shape, Nodes}
+use Rattle.format.proofs.Trie.{Shape}
 use Rattle.format.proofs.Subtries.{onBits-append}
 
 -- the nodes of a page's first l levels, and their on bits
@@ -79,11 +79,6 @@ level-next r l [] s h = absurd (omega arith)
 level-next r l (ns ∷ []) s h = absurd (omega arith)
 level-next r zero (ns ∷ ms ∷ page) s h = s .2 .0
 level-next r (suc l) (ns ∷ ms ∷ page) s h = level-next (onBits ns) l (ms ∷ page) (s .2) (omega arith)
-
-pub level-nodes : (r l : ℕ) (page : List (List ℕ)) → Shape r page → Nodes (getD page l [])
-level-nodes r l [] s = tt
-level-nodes r zero (ns ∷ page) s = s .1
-level-nodes r (suc l) (ns ∷ page) s = level-nodes (onBits ns) l page (s .2)
 
 -- ---- runs one after the other
 

@@ -1,6 +1,6 @@
 -- A band's levels and pages from a run of keys, key by key, as the writer goes.
 -- Assumes nothing.
-use mathlib.Core.Bool.{Bool, true, false, cond}
+use mathlib.Core.Bool.{cond}
 use mathlib.Core.List.{List, [], _∷_, _++_, map, append-nil}
 use mathlib.Core.Path.{_≡_, refl, sym, ap, ap₂, _∙_, subst}
 use Prim.Native.Nat.{ℕ, zero, suc, _+_, _*_, _-_, _/_, _^_, _≤_, _<_}
@@ -11,7 +11,7 @@ use lib.Dec.{eqb}
 use borrow.Author.Tests.{eq-eqb}
 use lib.ListN.{length, getD, take, drop, length-append, length-drop, List·getD-append}
 use lib.Seq.{getD-take, getD-drop, length-take-le, getD-at}
-use Rattle.format.specs.Trie.{addToFirst, bitOf, levelsOf, levelsOver, nodesOver, onBits, parents}
+use Rattle.format.specs.Trie.{levelsOf, levelsOver, nodesOver, onBits, parents}
 use Rattle.format.specs.Page.{firstSubtries, nodeCount}
 use Rattle.format.specs.Image.{bands}
 use Rattle.format.specs.Writer.{bandsOf, pagesOf, rootsIn}
@@ -21,8 +21,7 @@ use Rattle.format.proofs.Shapes.{Over, over, length-levelsOver}
 use Rattle.format.proofs.Subtries.{beside, first-whole, first-beside, nodeCount-beside}
 use Rattle.format.proofs.Pages.{Page, Paged, Follows, glue, glue-same, pages-of, pages-only, shape-roots, four-levels, roots-beside}
 use Rattle.format.proofs.Forth.{bandAt, bandsOf-row}
-use Rattle.format.proofs.Descent.{halve}
-use Rattle.format.proofs.RunHeads.{heads, last, shift, parents-of, heads-of, parents-append, some-nodes, Parted, parted-less, heads-append, level-append}
+use Rattle.format.proofs.RunHeads.{heads, last, shift, parents-of, heads-of, parents-append, Parted, parted-less, heads-append, level-append}
 
 -- ---- a band of a run
 
@@ -230,62 +229,6 @@ band-of-keys keys b lo hi =
 pub bands-of-keys : (keys : List ℕ) → bandsOf keys ≡ map (λ b. bandOver (32 - 4 * b) keys) bands
 unfolding bands
 bands-of-keys keys = bandsOf-row keys ∙ map-same (bandAt (levelsOf keys)) (λ b. bandOver (32 - 4 * b) keys) bands (all-numbers (λ b. bandAt (levelsOf keys) b ≡ bandOver (32 - 4 * b) keys) 1 8 (λ b lo hi. band-of-keys keys b lo (omega arith)))
-
--- ---- a level's nodes, key by key
-
--- the level of a run and one more key y: as it was, where y has the last prefix;
-pub level-same : (m x : ℕ) (xs : List ℕ) (y : ℕ) → Above x xs → last x xs < y → last x xs / 2 ^ m ≡ y / 2 ^ m → nodesOver (heads m ((x ∷ xs) ++ y ∷ [])) ≡ nodesOver (heads m (x ∷ xs))
-level-same m x xs y a lt e = ap nodesOver (heads-same m x xs y a lt e)
-
--- with a bit more in its last node, where y has another prefix with the same parent;
-abbrev pub addToLast : ℕ → List ℕ → List ℕ
-addToLast b [] = []
-addToLast b (n ∷ []) = (n + b) ∷ []
-addToLast b (n ∷ k ∷ ns) = n ∷ addToLast b (k ∷ ns)
-
-add-both : (u v : ℕ) (l : List ℕ) → addToFirst u (addToLast v l) ≡ addToLast v (addToFirst u l)
-unfolding addToFirst
-add-both u v [] = refl
-add-both u v (n ∷ []) = ap (_∷ []) (add-assoc u n v)
-  where
-    add-assoc : (u n v : ℕ) → u + (n + v) ≡ u + n + v
-    add-assoc u n v = omega arith
-add-both u v (n ∷ k ∷ l) = refl
-
-add-cons : (u v : ℕ) (l : List ℕ) → 1 ≤ length l → u ∷ addToLast v l ≡ addToLast v (u ∷ l)
-add-cons u v [] h = absurd (omega arith)
-add-cons u v (n ∷ l) h = refl
-
-nodes-joins : (x : ℕ) (xs : List ℕ) (y : ℕ) → last x xs / 2 ≡ y / 2 → nodesOver ((x ∷ xs) ++ y ∷ []) ≡ addToLast (bitOf y) (nodesOver (x ∷ xs))
-unfolding nodesOver addToFirst
-nodes-joins x [] y e = rw (eq-eqb (x / 2) (y / 2) e)
-nodes-joins x (z ∷ zs) y e =
-    ap (λ (l : List ℕ). cond (eqb (x / 2) (z / 2)) (addToFirst (bitOf x) l) (bitOf x ∷ l)) (nodes-joins z zs y e)
-    ∙ go (eqb (x / 2) (z / 2)) (nodesOver (z ∷ zs)) (some-nodes z zs)
-  where
-    go : (b : Bool) (l : List ℕ) → 1 ≤ length l → cond b (addToFirst (bitOf x) (addToLast (bitOf y) l)) (bitOf x ∷ addToLast (bitOf y) l) ≡ addToLast (bitOf y) (cond b (addToFirst (bitOf x) l) (bitOf x ∷ l))
-    go true l h = add-both (bitOf x) (bitOf y) l
-    go false l h = add-cons (bitOf x) (bitOf y) l h
-
-pub level-joins : (m x : ℕ) (xs : List ℕ) (y : ℕ) → Above x xs → Parted m x xs y → last x xs / 2 ^ suc m ≡ y / 2 ^ suc m
-    → nodesOver (heads m ((x ∷ xs) ++ y ∷ [])) ≡ addToLast (bitOf (y / 2 ^ m)) (nodesOver (heads m (x ∷ xs)))
-level-joins m x xs y a p e =
-    let q = heads-of m x xs a in
-    let same : last (x / 2 ^ m) (q .rest) / 2 ≡ y / 2 ^ m / 2 = ap (_/ 2) (q .end) ∙ sym (halve (last x xs) m) ∙ e ∙ halve y m in
-    ap nodesOver (heads-append m x xs y [] a tt p ∙ ap₂ _++_ (q .is) (heads-one m y))
-    ∙ nodes-joins (x / 2 ^ m) (q .rest) (y / 2 ^ m) same
-    ∙ ap (λ (l : List ℕ). addToLast (bitOf (y / 2 ^ m)) (nodesOver l)) (sym (q .is))
-
--- and with a node more, where y has another parent
-pub level-opens : (m x : ℕ) (xs : List ℕ) (y : ℕ) → Above x xs → Parted (suc m) x xs y → nodesOver (heads m ((x ∷ xs) ++ y ∷ [])) ≡ nodesOver (heads m (x ∷ xs)) ++ bitOf (y / 2 ^ m) ∷ []
-level-opens m x xs y a p = level-append m x xs y [] a tt p ∙ ap (nodesOver (heads m (x ∷ xs)) ++_) (ap nodesOver (heads-one m y) ∙ one (y / 2 ^ m))
-  where
-    one : (z : ℕ) → nodesOver (z ∷ []) ≡ bitOf z ∷ []
-    one z = unfold nodesOver in refl
-
-pub level-first : (m y : ℕ) → nodesOver (heads m (y ∷ [])) ≡ bitOf (y / 2 ^ m) ∷ []
-unfolding nodesOver
-level-first m y = ap nodesOver (heads-one m y)
 
 -- ---- the nodes of two runs
 

@@ -138,11 +138,6 @@ abbrev pub Fits : ℕ → List ℕ → Type 0
 Fits n [] = Unit {0}
 Fits n (x ∷ xs) = (x < 2 ^ n) × Fits n xs
 
--- ascending lists that are not empty
-abbrev pub Sorted : List ℕ → Type 0
-Sorted [] = ⊥
-Sorted (x ∷ xs) = Above x xs
-
 -- the parents of ascending prefixes of n + 1 bits are ascending, have n bits, and begin with the first one's
 pub record Halved (n x : ℕ) (l : List ℕ) : Type 0 where
   pub rest : List ℕ

@@ -1,43 +1,22 @@
--- From an out-link or a node of a page up to the node that leads there: finding by rank.
+-- From an out-link of a page up to the node that leads there: finding by rank.
 -- Assumes nothing.
-use mathlib.Core.List.{List, [], _∷_, _++_, map}
-use mathlib.Core.Path.{_≡_, refl, sym, ap, ap₂, _∙_, subst}
-use Prim.Native.Nat.{ℕ, zero, suc, _+_, _*_, _-_, _/_, _%_, _^_, _≤_, _<_}
-use native.Mathlib.Decide.{decLe, decLt, ℕ-discrete}
+use mathlib.Core.List.{List, [], _∷_}
+use mathlib.Core.Path.{_≡_, sym, ap, ap₂, _∙_, subst}
+use Prim.Native.Nat.{ℕ, zero, suc, _+_, _*_, _-_, _≤_, _<_}
+use native.Mathlib.Decide.{decLt}
 use native.Mathlib.Omega.{arith}
-use lib.ListN.{length, getD, take}
+use lib.ListN.{length, getD}
 use Rattle.format.specs.Seq.{All}
-use Rattle.format.specs.Trie.{onBits}
 use Rattle.format.specs.Page.{Byte}
-use Rattle.format.specs.Image.{keyCount, keysOf, outLinkCount, pageB, pageCount, pageLevels, pageNodes, pagePairs, pageRoots, pageT}
+use Rattle.format.specs.Image.{keyCount, pageCount, pageLevels, pageNodes, pagePairs, pageRoots, pageT}
 use Rattle.format.proofs.Checked.{Checked}
 use Rattle.format.proofs.Read.{page-four}
-use Rattle.format.proofs.Descent.{bit, childAt, onBits-suc}
-use Rattle.format.proofs.Counting.{marks}
+use Rattle.format.proofs.Descent.{bit}
 use Rattle.format.proofs.Places.{offset, offset-within}
-use Rattle.format.proofs.Levels.{prefixesAt, depth, before, before-roots, childPlace}
-use Rattle.format.proofs.Walk.{Reached, reached-node, reached-place, reached-valid, reached-child, reached-out, outLink, Out, ReachedAt, reached-any}
+use Rattle.format.proofs.Levels.{prefixesAt, depth, before, childPlace}
+use Rattle.format.proofs.Walk.{Reached, reached-place, reached-child, reached-out, Out, ReachedAt}
 
 -- ---- the bit with a number
-
--- The pair at p has the on bit of number s: which of its two bits it is.
-pub record BitOf (ps : List ℕ) (p s : ℕ) : Type 0 where
-  pub t : ℕ
-  pub small : t ≤ 1
-  pub on : 1 ≤ bit t (getD ps p 0)
-  pub number : childAt ps p t ≡ s
-
-pub bit-of : (ps : List ℕ) (p s : ℕ) → p < length ps → getD ps p 0 ≤ 3 → marks ps p ≤ s → s < marks ps (suc p) → BitOf ps p s
-unfolding marks
-bit-of ps p s h v lo hi =
-    let e = onBits-suc ps p h in
-    elim (ℕ-discrete (getD ps p 0 / 2) 0) [
-      | yes z ↦ record { t = 1; small = omega arith; on = omega arith; number = omega arith }
-      | no z ↦ elim (ℕ-discrete s (onBits (take p ps))) [
-        | yes f ↦ record { t = 0; small = omega arith; on = omega arith; number = sym f }
-        | no f ↦ record { t = 1; small = omega arith; on = omega arith; number = omega arith }
-      ]
-    ]
 
 -- ---- a place is one node's
 
@@ -80,23 +59,12 @@ module _ (img : List ℕ) (a : All Byte img) (c : Checked img) (some : 1 ≤ key
       (reached-level i (r .l) 0 p _ _ _ _ (r .way) at′, reached-same i (r .l) 0 p _ _ _ _ (r .way) at′ .0)
 
   module _ (i p t : ℕ) (r : ReachedAt img b i p) (small : t ≤ 1) (on : 1 ≤ bit t (getD (pagePairs img b i) p 0)) where
-    low-level : childPlace img b i p t < pageNodes img b i → r .l < 3
-    low-level h =
-        elim (decLt (r .l) 3) [
-          | yes k ↦ k
-          | no k ↦ absurd (omega (arith, reached-out img a c some b lo hi i (r .l) p (r .n) (r .x) (r .way) t small on (omega (arith, r .way .in-page)) .past))
-        ]
-
     high-level : pageNodes img b i ≤ childPlace img b i p t → r .l ≡ 3
     high-level h =
         elim (decLt (r .l) 3) [
           | yes k ↦ absurd (omega (arith, reached-place img a c some b lo hi i _ _ _ _ (reached-child img a c some b lo hi i (r .l) p (r .n) (r .x) (r .way) t small on k)))
           | no k ↦ omega (arith, r .way .in-page)
         ]
-
-    -- a place within the nodes, to which bit t of place p leads, has p's prefix and t
-    pub up-node : childPlace img b i p t < pageNodes img b i → (q : ReachedAt img b i (childPlace img b i p t)) → q .x ≡ 2 * r .x + t
-    up-node h q = reached-same i _ _ (childPlace img b i p t) _ _ _ _ (q .way) (reached-child img a c some b lo hi i (r .l) p (r .n) (r .x) (r .way) t small on (low-level h)) .1
 
     -- a place past the nodes is an out-link, and that number's prefix in the next level is p's and t
     pub up-link : pageNodes img b i ≤ childPlace img b i p t → Out img b i (childPlace img b i p t) (2 * r .x + t)

@@ -11,7 +11,7 @@ use borrow.Author.Tests.{le-leb, lt-leb}
 use lib.ListN.{length, getD, take, drop, length-drop}
 use lib.Seq.{take-all}
 use Rattle.format.specs.Seq.{All, numbersFrom, rankIn, total, upTo}
-use Rattle.format.specs.Trie.{below, descend, onBits}
+use Rattle.format.specs.Trie.{onBits}
 use Rattle.format.specs.Page.{Byte}
 use Rattle.format.specs.Image.{bandLevels, imageLevels, keyCount, keysOf, outLinkCount, pageB, pageCount, pageLevels, pageNodes, pageNumber, pagePairs, pageRoots, pageT, rootCount}
 use Rattle.format.specs.Answer.{pageOf, rootOf}
@@ -229,13 +229,9 @@ module _ (img : List ℕ) (a : All Byte img) (c : Checked img) (some : 1 ≤ key
       ∙ at
       ∙ ap₂ (λ (n : ℕ) (l : List ℕ). n + onBits l) nodes (take-all (length (getD (pageLevels img b i) 3 [])) (getD (pageLevels img b i) 3 []) (omega arith))
 
--- ---- the start, and the page of a root
+-- ---- the page of a root
 
 module _ (img : List ℕ) (a : All Byte img) (c : Checked img) where
-  pub start : prefixesAt img (depth 1 0) ≡ 0 ∷ []
-  unfolding prefixesAt descend
-  start = refl
-
   -- the last page whose T is at or below a root's number has that root
   pub page-holds : (b i n : ℕ) → 1 ≤ b → b ≤ 8 → i < pageCount img b → (suc i < pageCount img b → n < pageT img b (suc i)) → n < rootCount img b → n < pageT img b i + pageRoots img b i
   page-holds b i n lo hi h f k =

@@ -1,6 +1,6 @@
 -- What an image says, read from its bytes. Bands are counted from 1, the pages of a band from 0, the pages of the image from 1.
 -- Assumes nothing.
-use Prim.Native.Nat.{ℕ, zero, suc, _+_, _-_, _*_}
+use Prim.Native.Nat.{ℕ, _+_, _-_, _*_}
 use mathlib.Core.Bool.{cond}
 use mathlib.Core.List.{List, [], _∷_, map, flatMap}
 use lib.Dec.{ltb}

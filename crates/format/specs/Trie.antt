@@ -2,7 +2,7 @@
 -- A node is a number from 1 to 3: 2 for its first bit, 1 for its second, 3 for both. A level is the list of its nodes, left to right.
 -- Assumes nothing.
 use Prim.Native.Nat.{ℕ, zero, suc, _+_, _-_, _*_, _/_, _%_}
-use mathlib.Core.Bool.{Bool, true, false, cond}
+use mathlib.Core.Bool.{cond}
 use mathlib.Core.List.{List, [], _∷_, _++_}
 use lib.Dec.{eqb}
 use Rattle.format.specs.Seq.{consIf}

@@ -1,9 +1,9 @@
 -- The scan's answer and records, from lookup's answer and what 21 to 26 then say.
 -- Assumes nothing.
-use mathlib.Core.Path.{_≡_, refl, sym, ap, ap₂, _∙_}
+use mathlib.Core.Path.{_≡_, refl, sym, ap, _∙_}
 use mathlib.Core.Bool.{Bool, true, false, cond}
 use mathlib.Core.Option.{none, some}
-use mathlib.Core.List.{List, _++_, map}
+use mathlib.Core.List.{List, map}
 use Prim.Native.Nat.{ℕ, _+_, _≤_, _<_}
 use native.Mathlib.Omega.{arith}
 use lib.Dec.{eqb, ltb}
@@ -17,7 +17,7 @@ use Rattle.format.specs.Answer.{LookupAnswer, absent, listed, lookup, lookupAns
 use Rattle.format.specs.Scan.{opened, openingsPlace, recordOf, recordsAfter, recordsAfterScan, scan, scanQuestions, largest32}
 use Rattle.format.proofs.Questions.{after-no, after-yes}
 use Rattle.format.proofs.Jobs.{no-of-refused, yes-of-returns}
-use Rattle.format.proofs.Checked.{Checked, checked}
+use Rattle.format.proofs.Checked.{checked}
 use Rattle.format.proofs.Back.{listed as list-facts}
 use Rattle.format.proofs.Histories.{rank-below}
 use Rattle.gate.specs.Gate.{gateQuestions, gateRecords, lockoutOver, timeRight}

@@ -2,7 +2,7 @@
 use query::Presence;
 ghost use mathlib.Core.Path.{_≡_};
 ghost use mathlib.Core.Bool.{true};
-ghost use Prim.Native.Nat.{_+_, _<_, _≤_};
+ghost use Prim.Native.Nat.{_<_};
 ghost use Rattle.format.specs.Question.{settle};
 ghost use Rattle.format.specs.Scan;
 ghost use Rattle.gate.specs.Gate.{outcomeOf, gateQuestions, gateRecords, timeRight, lockoutOver};

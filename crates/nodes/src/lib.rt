@@ -2,7 +2,7 @@
 // over the page is then taken from one word.
 ghost use mathlib.Core.Path.{_≡_};
 ghost use mathlib.Core.List.{[], _∷_};
-ghost use Prim.Native.Nat.{_+_, _-_, _*_, _≤_, _<_};
+ghost use Prim.Native.Nat.{_+_, _*_, _≤_, _<_};
 ghost use lib.ListN.{length, getD};
 ghost use lib.Count.{ones};
 ghost use Rattle.nodes.specs.Words.{halfAt, wordAt, wordsOf, countsBefore, onesBefore, restEmpty, nodeIn, usedNodes, noneEmpty};

@@ -10,7 +10,6 @@ use native.Mathlib.Omega.{arith}
 use lib.Count.{ones, ones-step}
 use lib.ListN.{getD}
 use lib.Pow.{pow-mono, shr-shr}
-use Rattle.format.proofs.Descent.{bit}
 use Rattle.nodes.specs.Words.{countsBefore, nodeIn, onesBefore}
 use Rattle.query.specs.Page.{childIn}
 use Rattle.query.specs.Select.{Selected, SideOf}

@@ -7,6 +7,7 @@ use native.Mathlib.Numerals.{add-one}
 use native.Mathlib.Omega.{arith}
 use lib.Pow.{pow-add}
 use Rattle.format.specs.Key.{gather, holderOf, slotOf}
+use Rattle.format.proofs.Keys.{gather-small}
 use Rattle.format.proofs.Cells.{lowest, highest}
 use Rattle.query.proofs.Endings.{power-positive}
 
@@ -26,19 +27,6 @@ gather-short (suc d) k n h =
     let p : 2 ^ (2 * suc d) ≡ 4 * 2 ^ (2 * d) = ap (2 ^_) e ∙ pow-suc 2 (suc (2 * d)) ∙ ap (_* 2) (pow-suc 2 (2 * d)) ∙ omega arith in
     let s : suc d + k ≡ suc (d + k) = omega arith in
     ap (λ (m : ℕ). gather m n) s ∙ ap (λ (m : ℕ). n % 2 + 2 * m) (gather-short d k (n / 4) (omega arith))
-
-pub gather-small : (d n : ℕ) → gather d n < 2 ^ d
-unfolding gather
-gather-small zero n = omega arith
-gather-small (suc d) n = omega (arith, pow-suc 2 d, gather-small d (n / 4))
-
-pub holder-small : (x : ℕ) → holderOf x < 65536
-unfolding holderOf
-holder-small x = gather-small 16 (x / 2)
-
-pub slot-small : (x : ℕ) → slotOf x < 65536
-unfolding slotOf
-slot-small x = gather-small 16 x
 
 -- the two lowest bits, and the others
 gather-two : (d n : ℕ) → gather (suc (suc d)) n ≡ n % 2 + 2 * (n / 4 % 2) + 4 * gather d (n / 4 / 4)

@@ -5,7 +5,7 @@ use mathlib.Core.Path.{_≡_, refl, sym, ap, _∙_}
 use Prim.Native.Nat.{ℕ, zero, suc, _+_, _≤_}
 use native.Mathlib.Nat.{add-zero}
 use native.Mathlib.Omega.{arith}
-use lib.ListN.{length, drop, set, length-append, length-set}
+use lib.ListN.{length, drop, set, length-append}
 use Rattle.query.specs.Walk.{written, Listed}
 
 written-both : (d : ℕ) (xs ys buffer : List ℕ) → written d (xs ++ ys) buffer ≡ written (d + length xs) ys (written d xs buffer)
@@ -14,11 +14,6 @@ written-both d [] ys buffer = ap (λ (n : ℕ). written n ys buffer) (sym (add-z
 written-both d (x ∷ xs) ys buffer =
     let e : suc d + length xs ≡ d + suc (length xs) = omega arith in
     written-both (suc d) xs ys (set buffer d x) ∙ ap (λ (n : ℕ). written n ys (written (suc d) xs (set buffer d x))) e
-
-pub written-length : (d : ℕ) (xs buffer : List ℕ) → length (written d xs buffer) ≡ length buffer
-unfolding written
-written-length d [] buffer = refl
-written-length d (x ∷ xs) buffer = written-length (suc d) xs (set buffer d x) ∙ length-set buffer d x
 
 -- past the last place nothing is written
 pub set-past : (l : List ℕ) (d x : ℕ) → length l ≤ d → set l d x ≡ l
@@ -45,10 +40,6 @@ listed-none {xs} {buffer} {d} e = rw e (record { count = omega arith; holds = re
 pub listed-one : {xs buffer : List ℕ} {d : ℕ} (k : ℕ) → xs ≡ k ∷ [] → Listed xs buffer d (set buffer d k) (d + 1)
 unfolding written
 listed-one {xs} {buffer} {d} k e = rw e (record { count = refl; holds = refl })
-
-pub listed-past : {xs buffer : List ℕ} {d : ℕ} (k : ℕ) → xs ≡ k ∷ [] → length buffer ≤ d → Listed xs buffer d buffer (d + 1)
-unfolding written
-listed-past {xs} {buffer} {d} k e h = rw e (record { count = refl; holds = sym (set-past buffer d k h) })
 
 pub listed-both : {zs xs ys buffer₀ buffer₁ buffer₂ : List ℕ} {d n m : ℕ} → zs ≡ xs ++ ys → Listed xs buffer₀ d buffer₁ n → Listed ys buffer₁ n buffer₂ m → Listed zs buffer₀ d buffer₂ m
 listed-both {zs} {xs} {ys} {buffer₀} {buffer₁} {buffer₂} {d} {n} {m} e p q =

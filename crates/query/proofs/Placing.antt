@@ -1,9 +1,9 @@
 -- How a block lies to a rectangle, from how its holders and its slots lie to the two ranges.
 -- Assumes nothing.
 use mathlib.Core.Bool.{Bool, true, false, _&&_}
-use mathlib.Core.Logic.{_⊎_, inl, inr, ⊎-elim}
+use mathlib.Core.Logic.{_⊎_, ⊎-elim}
 use mathlib.Core.Path.{_≡_, refl, sym, ap, ap₂, _∙_}
-use Prim.Native.Nat.{ℕ, zero, suc, _+_, _-_, _*_, _/_, _%_, _^_, _≤_, _<_}
+use Prim.Native.Nat.{ℕ, _+_, _-_, _*_, _%_, _^_, _≤_, _<_}
 use native.Mathlib.Nat.{mod-eq-of-lt, pow-le-pow-right}
 use native.Mathlib.Decide.{decLe}
 use native.Mathlib.Omega.{arith}
@@ -13,7 +13,7 @@ use Rattle.format.specs.declared.Rectangle.{Rectangle}
 use Rattle.format.specs.Key.{holderOf, slotOf}
 use Rattle.format.specs.Answer.{contains, inside, isWithin}
 use Rattle.format.proofs.Lists.{and-both}
-use Rattle.format.proofs.Cells.{Apart as CellApart, Covers, before-holders, after-holders, before-slots, after-slots, before-range, after-range, within-range}
+use Rattle.format.proofs.Cells.{Apart as CellApart, before-holders, after-holders, before-slots, after-slots, after-range, within-range}
 use Rattle.query.specs.declared.block.Block.{Block}
 use Rattle.query.specs.declared.block.Place.{Place}
 use Rattle.query.specs.declared.block.Place.the-variants.{Apart, Inside, Across}

@@ -43,14 +43,6 @@ rank-cons e l z = go (ltb e z)
     go true = unfold consIf asBit in omega arith
     go false = unfold consIf asBit in omega arith
 
-pub rank-few : (l : List ℕ) (z : ℕ) → rankIn l z ≤ length l
-rank-few [] z = unfold rankIn select in omega arith
-rank-few (e ∷ l) z = go (ltb e z) (rank-cons e l z) (rank-few l z)
-  where
-    go : (b : Bool) → rankIn (e ∷ l) z ≡ asBit b + rankIn l z → rankIn l z ≤ length l → rankIn (e ∷ l) z ≤ suc (length l)
-    go true h k = unfold asBit in omega arith
-    go false h k = unfold asBit in omega arith
-
 -- the rank of the next number
 pub rank-next : (l : List ℕ) (z : ℕ) → Asc l → rankIn l (suc z) ≡ rankIn l z + asBit (isIn z l)
 unfolding isIn asBit

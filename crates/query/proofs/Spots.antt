@@ -24,7 +24,7 @@ use Rattle.query.specs.Page.{Ready, PageRead}
 use Rattle.query.specs.Cell.{Cell, SpotAt, rootPrefix}
 use Rattle.query.specs.Subtrie.{asBit, setOf, levelSet, placeAfter, bitsAfter, startIn, StartsRight, SubtrieRead}
 use Rattle.query.proofs.Pages.{bytes, checked, T-small}
-use Rattle.query.proofs.Ranks.{rank-few}
+use Rattle.format.proofs.Members.{rank-le}
 use Rattle.query.proofs.Ranked.{links-count, links-few}
 use Rattle.query.proofs.Subtries.{link-is, root-way, cell₀, cell₁, cell₂, cell₃}
 use Rattle.query.proofs.Next.{Gap, gap-first, gap-next, gap-rank, cell-shift, rank-run}
@@ -42,7 +42,7 @@ module _ {img : List ℕ} (r : Ready img) {b : ℕ} (lo : 1 ≤ b) (hi : b ≤ 8
   root-small = omega (arith, s .to, s .end-is, T-small r b (s .i), checked r .page b (s .i) lo hi (s .in-band) .few-roots)
 
   pub link-small : spot .link .0 < 65536
-  link-small = omega (arith, s .link-is, rank-few (prefixesAt img (4 * b)) (16 * rootPrefix img b (spot .root .0)), links-count r b lo hi, links-few r b)
+  link-small = omega (arith, s .link-is, rank-le (prefixesAt img (4 * b)) (16 * rootPrefix img b (spot .root .0)), links-count r b lo hi, links-few r b)
 
   module _ {part : List ℕ} (ep : part ≡ take 64 (drop (spot .at) img)) where
     pub part-length : length part ≡ 64

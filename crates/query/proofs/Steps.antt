@@ -2,8 +2,8 @@
 -- Assumes nothing.
 use mathlib.Core.Bool.{Bool, true}
 use mathlib.Core.List.{List, [], _∷_, List·Memᴰ, Memᴰ·cast}
-use mathlib.Core.Path.{_≡_, refl, sym, ap, ap₂, subst, _∙_}
-use Prim.Native.Nat.{ℕ, zero, suc, _+_, _-_, _*_, _/_, _^_, _≤_, _<_}
+use mathlib.Core.Path.{_≡_, sym, ap, ap₂, subst, _∙_}
+use Prim.Native.Nat.{ℕ, suc, _+_, _-_, _*_, _/_, _^_, _≤_, _<_}
 use native.Mathlib.Nat.{add-mul, add-zero, div-eq-of-lt, mul-add-div-right, mul-assoc, mul-comm, mul-one, pow-le-pow-right}
 use native.Mathlib.Numerals.{add-one}
 use native.Mathlib.Omega.{arith}
@@ -28,7 +28,7 @@ use Rattle.query.specs.Walk.{Opening, Walking, Listed, every, membersBet
 use Rattle.query.proofs.Pages.{bytes, checked}
 use Rattle.query.proofs.Ranked.{links-count, links-few}
 use Rattle.query.proofs.Ranks.{Tested, member, stranger, tested, rank-next, at-rank}
-use Rattle.query.proofs.Sets.{bit-small, set-bit}
+use Rattle.query.proofs.Sets.{set-bit}
 use Rattle.query.proofs.Endings.{power-positive}
 use Rattle.query.proofs.Between.{members-none, members-outside, members-one, members-agree, one-between}
 

@@ -1,9 +1,8 @@
 -- The members of a rectangle are those between the first key and the last.
 -- Assumes nothing.
-use mathlib.Core.Bool.{Bool, true, false}
 use mathlib.Core.List.{List, [], _∷_}
 use mathlib.Core.Path.{_≡_, refl, sym, ap, subst, _∙_}
-use Prim.Native.Nat.{ℕ, suc, _+_, _*_, _^_, _≤_, _<_}
+use Prim.Native.Nat.{ℕ, _+_, _*_, _^_, _≤_, _<_}
 use native.Mathlib.Omega.{arith}
 use lib.ListN.{length}
 use Rattle.format.specs.declared.Rectangle.{Rectangle}
@@ -14,6 +13,7 @@ use Rattle.format.specs.Exact.{Accepted}
 use Rattle.format.proofs.Accepted.{facts}
 use Rattle.format.proofs.Cells.{Covers}
 use Rattle.format.proofs.Depth.{no-keys-listed}
+use Rattle.format.proofs.Members.{select-short}
 use Rattle.format.proofs.Trie.{Fits}
 use Rattle.format.proofs.Levels.{prefixesAt}
 use Rattle.query.specs.declared.block.Place.{Place}
@@ -23,15 +23,6 @@ use Rattle.query.specs.Page.{Ready}
 use Rattle.query.specs.Walk.{Opening, every, membersBetween}
 use Rattle.query.proofs.Between.{all-between}
 use Rattle.query.proofs.Steps.{members-every}
-
-select-few : (f : ℕ → Bool) (l : List ℕ) → length (select f l) ≤ length l
-unfolding select
-select-few f [] = omega arith
-select-few f (x ∷ l) = go (f x) (select f l) (select-few f l)
-  where
-    go : (b : Bool) (xs : List ℕ) → length xs ≤ length l → length (consIf b x xs) ≤ suc (length l)
-    go true xs h = unfold consIf in omega arith
-    go false xs h = unfold consIf in omega arith
 
 select-every : (l : List ℕ) → select every l ≡ l
 unfolding select consIf
@@ -51,7 +42,7 @@ ready-of a f = record { accepted = a; some = omega (arith, f) }
 module _ {img : List ℕ} (a : Accepted img) (rectangle : Rectangle) where
   pub members-at-most : length (memberKeys img rectangle) ≤ keyCount img
   unfolding memberKeys
-  members-at-most = omega (arith, select-few (inside rectangle) (keysOf img), facts img a .keys .count-is)
+  members-at-most = omega (arith, select-short (inside rectangle) (keysOf img), facts img a .keys .count-is)
 
   pub members-few : length (memberKeys img rectangle) ≤ 4096
   members-few = omega (arith, members-at-most, facts img a .few)

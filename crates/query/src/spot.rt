@@ -1,5 +1,5 @@
 // Where the reading of each band stands. A walk reads the subtries of a band from left to right: the next one of a page is read from where the last one
-// ended, and a page is looked for only where the walk skips or the page ends.
+// ended, and a page is looked for only where the walk leaves the one that it is in.
 ghost use mathlib.Core.Path.{_≡_};
 ghost use Prim.Native.Nat.{_≤_, _<_};
 ghost use Rattle.format.specs.Image.{rootCount};

@@ -1,6 +1,6 @@
 // The levels of a subtrie: where they start in a page, and their bits.
 ghost use mathlib.Core.Path.{_≡_};
-ghost use Prim.Native.Nat.{_+_, _-_, _*_, _/_, _%_, _^_, _≤_, _<_};
+ghost use Prim.Native.Nat.{_/_, _%_, _^_, _≤_, _<_};
 ghost use lib.Count.{ones};
 ghost use lib.ListN.{length};
 ghost use Rattle.reader.specs.Page.{nodeOf};
@@ -49,8 +49,8 @@ fn bit(set: u32, n: usize) -> u32
     (set >> n) % 2
 }
 
-// The next level of a subtrie, read from a window without branches. Under each on bit of `set`, `width` bits with the first the highest, stands the next node from `place` on: the nodes'
-// bits in order, 00 under an off bit.
+// The next level of a subtrie, read from a window without branches. Under each on bit of `set`, `width` bits with the first the highest, stands the
+// next node from `place` on: the nodes' bits in order, 00 under an off bit.
 pub fn next_level(page: &[u8], place: usize, set: u32, width: usize) -> Level
     requires { ⌜ (length (now page) ≡ 64) × (place < 240) × (1 ≤ width) × (width ≤ 8) × (placeAfter set width place width ≤ 240) ⌝ }
     ensures { λ r. ⌜ (r .bits ≡ bitsAfter (now (page .entry)) set width place width) × (r .bits < 65536) × (r .place ≡ placeAfter set width place width) ⌝ }

@@ -137,7 +137,7 @@ fn walk_inside(
     n
 }
 
-// Lists the members in a cell, to which the out-link leads.
+// Lists the members in a block that lies across the rectangle, to which the out-link leads.
 fn open_band(
     image: &[u8],
     rectangle: Rectangle,
@@ -219,7 +219,7 @@ fn walk_subtrie(
     n
 }
 
-// The cell of all keys.
+// The block of all keys.
 fn whole() -> Block
     ensures { λ r. ⌜ (r .prefix ≡ 0) × (BlockOf r) ⌝ }
 {

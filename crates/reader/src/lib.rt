@@ -1,7 +1,7 @@
 // A reader that holds a page and the node reached, and moves forward only. The functions over it are thin: the work is done by
 // `node_at` and `ahead`, which take a plain slice and numbers and are covered.
 ghost use mathlib.Core.Path.{_≡_};
-ghost use Prim.Native.Nat.{_+_, _*_, _<_, _≤_, _^_, _/_};
+ghost use Prim.Native.Nat.{_+_, _<_, _^_, _/_};
 ghost use lib.ListN.{length};
 ghost use Rattle.reader.specs.Page.{nodeOf};
 

@@ -1,33 +1,29 @@
 -- The whole output: a refusal, or the first line and the lines of all keys.
 -- Assumes nothing.
-use mathlib.Core.Path.{_≡_, refl, sym, ap, ap₂, _∙_, subst}
-use mathlib.Core.Bool.{true, cond}
+use mathlib.Core.Path.{_≡_, refl, sym, ap, ap₂, _∙_}
 use mathlib.Core.Option.{Option, none, some}
 use mathlib.Core.List.{List, [], _∷_, _++_, append-assoc}
-use Prim.Native.Nat.{ℕ, _+_, _*_, _≤_, _<_}
+use Prim.Native.Nat.{ℕ, _+_, _≤_, _<_}
 use native.Mathlib.Nat.{zero-add}
 use native.Mathlib.Omega.{arith}
 use lib.Dec.{leb}
 use borrow.Author.Tests.{le-leb, lt-leb}
 use lib.ListN.{length, take, drop, length-append}
-use lib.Seq.{sets, sets-eq, take-append-seam}
+use lib.Seq.{sets, sets-eq}
 use Rattle.format.specs.Seq.{All}
 use Rattle.format.specs.Page.{Byte}
 use Rattle.format.specs.Image.{keyCount, keysOf}
-use Rattle.format.specs.Question.{Outcome, Question, Yes, filled, firstNo, imageQuestions, outcome, refused, returns, settle}
+use Rattle.format.specs.Question.{Outcome, firstNo, imageQuestions, outcome, refused, returns, settle}
 use Rattle.format.specs.Answer.{bufferAfterListing, check, listing, memberKeys, placesQuestion, rectangleQuestion}
 use Rattle.format.specs.Text.{admissionsWord, printed, refusedWord, rows}
 use Rattle.format.specs.Text as text
 use Rattle.format.specs.declared.Rectangle.{Rectangle}
 use Rattle.format.specs.Exact.{Accepted, InOrder, LongEnough, wholeSquare}
 use Rattle.format.proofs.Checked.{cond-yes, cond-no}
-use Rattle.format.proofs.Jobs.{no-of-refused, yes-of-returns}
-use Rattle.format.proofs.Questions.{after-no, after-yes, none-of-yes, yes-of-none}
-use Rattle.format.proofs.Lists.{all-left}
+use Rattle.format.proofs.Questions.{after-no}
 use Rattle.format.proofs.Accepted.{facts, returned-of-yes}
 use Rattle.format.proofs.Exact.{listing-is, listing-keys, whole-members}
 use Rattle.report.specs.Row.{fieldOf, Put}
-use Rattle.report.proofs.Puts.{put-same, put-then}
 
 -- ---- parts at the start
 

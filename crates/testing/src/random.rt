@@ -1,5 +1,5 @@
 // A generator of Lehmer's kind: the same seed gives the same numbers on every machine.
-ghost use Prim.Native.Nat.{_<_, _≤_};
+ghost use Prim.Native.Nat.{_<_};
 
 pub struct Random {
     pub state: u64,

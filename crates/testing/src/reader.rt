@@ -1,5 +1,5 @@
 // A plain reader of a sorted array of keys.
-ghost use Prim.Native.Nat.{_≤_, _<_};
+ghost use Prim.Native.Nat.{_≤_};
 ghost use lib.ListN.{length};
 use format::Rectangle;
 

@@ -1,6 +1,6 @@
 -- The test of question 15, neighbour by neighbour.
 -- Assumes nothing.
-use mathlib.Core.Path.{_≡_, refl, sym, ap, ap₂, _∙_}
+use mathlib.Core.Path.{_≡_, refl, sym, ap, _∙_}
 use mathlib.Core.Bool.{Bool, true, false, _&&_}
 use mathlib.Core.List.{List, [], _∷_}
 use Prim.Native.Nat.{ℕ, zero, suc, _+_, _-_, _≤_, _<_}
@@ -9,7 +9,6 @@ use lib.Dec.{ltb}
 use borrow.Author.Tests.{lt-ltb, le-ltb}
 use lib.ListN.{length, getD, drop}
 use Rattle.format.specs.Writer.{ascending}
-use Rattle.format.proofs.Trie.{Asc}
 
 step : (l : List ℕ) (n : ℕ) → suc n < length l → ascending (drop n l) ≡ ltb (getD l n 0) (getD l (suc n) 0) && ascending (drop (suc n) l)
 unfolding ascending
@@ -60,10 +59,3 @@ module _ (keys : List ℕ) (all : Bool) (i : ℕ) (t : Tested keys all i) where
 
   pub tested-end : length keys ≤ i → all ≡ ascending keys
   tested-end le = sym (t .same ∙ ap (all &&_) (ends keys (i - 1) (omega (arith, t .begun))) ∙ and-true all)
-
--- keys above one another are ascending
-pub to-ascending : (l : List ℕ) → Asc l → ascending l ≡ true
-unfolding ascending
-to-ascending [] a = refl
-to-ascending (x ∷ []) a = refl
-to-ascending (x ∷ y ∷ l) a = ap₂ _&&_ (lt-ltb x y (a .0)) (to-ascending (y ∷ l) (a .1))

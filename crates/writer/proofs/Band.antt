@@ -11,7 +11,7 @@ use Rattle.format.specs.Trie.{parents}
 use Rattle.format.specs.Writer.{pagesOf, rootsIn, bandBytes, pageBytes}
 use Rattle.format.proofs.Trie.{Asc}
 use Rattle.format.proofs.Bytes.{length-pageBytes}
-use Rattle.format.proofs.Members.{of-ascending}
+use Rattle.format.proofs.Members.{of-ascending, ascending-of}
 use Rattle.format.proofs.RunHeads.{heads}
 use Rattle.writer.specs.declared.Head.{Head}
 use Rattle.writer.specs.declared.run.PageRun.{PageRun}
@@ -19,7 +19,6 @@ use Rattle.writer.specs.Run.{Prefixes, PageIs, bandAbove}
 use Rattle.writer.specs.Page.{PageRoom, PageDone}
 use Rattle.writer.specs.Image.{BandRoom, BandDone, bytesOfBand, pagesFrom}
 use Rattle.writer.proofs.Parts.{put, length-put, take-put, drop-put, rest-put}
-use Rattle.writer.proofs.Ascending.{to-ascending}
 use Rattle.writer.proofs.Runs.{Run, run-of, part, part-join, part-all, asc-drop}
 use Rattle.writer.proofs.Bands.{roots-are, roots-is, roots-join, links-are, no-pages, heads-few}
 
@@ -78,7 +77,7 @@ module _ (q out₀ : List ℕ) (first : ℕ) (keys out : List ℕ) (head : Head)
   pub run-room : Prefixes (take (length keys - from) (drop from keys)) × (0 < length (take (length keys - from) (drop from keys)))
   run-room =
       rw rest-is (
-        record { few = omega (arith, length-drop from q, s .listed .few); ordered = to-ascending (drop from q) (asc-drop from q asc) },
+        record { few = omega (arith, length-drop from q, s .listed .few); ordered = ascending-of (drop from q) (asc-drop from q asc) },
         omega (arith, length-drop from q, s .same-keys),
       )
 
@@ -113,7 +112,7 @@ module _ (q out₀ : List ℕ) (first : ℕ) (keys out : List ℕ) (head : Head)
     page-room =
         rw run-keys (record {
           some = omega (arith, run-length, p .some);
-          ordered = to-ascending (part from (from + run .end) q) (rw (here .is) (here .above));
+          ordered = ascending-of (part from (from + run .end) q) (rw (here .is) (here .above));
           room = omega (arith, number-within, length-drop (64 * number) out, ap length (take-all (length out - 64 * number) (drop (64 * number) out) (omega (arith, length-drop (64 * number) out))));
           counted = rw run-q (p .nodes-are);
           fits = p .fits;

@@ -42,7 +42,3 @@ pub less-nodes : (n : ℕ) (l : List ℕ) → length (nodesOver (drop n l)) ≤ 
 less-nodes zero l = omega arith
 less-nodes (suc n) [] = omega arith
 less-nodes (suc n) (x ∷ l) = omega (arith, less-nodes n l, more-nodes x l .0)
-
-pub some-node : (y : ℕ) (l : List ℕ) → 1 ≤ length (nodesOver (y ∷ l))
-some-node y [] = unfold nodesOver in omega arith
-some-node y (z ∷ l) = omega (arith, more-nodes y (z ∷ l) .0, some-node z l)

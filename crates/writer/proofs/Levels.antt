@@ -16,7 +16,8 @@ use Rattle.format.proofs.Members.{of-ascending}
 use Rattle.writer.specs.Page.{nodesOf, withNodes, bitIn, pageLeft, byteLeft, LevelRoom, LevelDone}
 use Rattle.writer.proofs.Stores.{length-zeros}
 use Rattle.writer.proofs.Runs.{asc-drop}
-use Rattle.writer.proofs.Fronts.{nodes-same, nodes-other, parents-same, parents-other, less-nodes, some-node}
+use Rattle.format.proofs.RunHeads.{some-nodes}
+use Rattle.writer.proofs.Fronts.{nodes-same, nodes-other, parents-same, parents-other, less-nodes}
 use Rattle.writer.proofs.Filling.{Held, with-own, held-on, held-left, held-small, length-left}
 
 -- ---- the scan
@@ -159,7 +160,7 @@ module _ (page₀ q : List ℕ) (from end : ℕ) (page keys : List ℕ) (i y fir
     same-held = go (nodesOver (drop i q)) (s .held) same-level some-of
       where
         some-of : 1 ≤ length (nodesOver (drop i q))
-        some-of = rw read-rest (some-node y (drop (suc i) q))
+        some-of = rw read-rest (some-nodes y (drop (suc i) q))
 
         go : (ns : List ℕ) → Held page₀ page node byte (replicate node 0 ++ (ns ++ drop end (nodesOf page₀))) → nodesOver (drop (i - 1) q) ≡ addToFirst (bitOf (getD keys (i - 1) 0)) ns → 1 ≤ length ns
             → Held page₀ page node (byte + bitIn node (getD keys (i - 1) 0)) (replicate node 0 ++ (nodesOver (drop (i - 1) q) ++ drop end (nodesOf page₀)))

@@ -12,13 +12,12 @@ use Rattle.format.specs.Page.{nodeBytes, nodeCount, pairsOf}
 use Rattle.format.proofs.Lists.{all-append}
 use Rattle.format.proofs.Trie.{Asc}
 use Rattle.format.proofs.Bytes.{length-flatten, length-nodeBytes}
-use Rattle.format.proofs.Members.{of-ascending}
+use Rattle.format.proofs.Members.{of-ascending, ascending-of}
 use Rattle.format.proofs.RunHeads.{heads, heads-of}
 use Rattle.format.proofs.Runs.{parents-heads}
 use Rattle.writer.specs.declared.page.Level.{Level}
 use Rattle.writer.specs.Run.{bandAbove, rootsAbove}
 use Rattle.writer.specs.Page.{nodesOf, withNodes, LevelRoom, LevelDone, LevelsRoom, LevelsDone}
-use Rattle.writer.proofs.Ascending.{to-ascending}
 use Rattle.writer.proofs.Runs.{Run, rest-run}
 use Rattle.writer.proofs.Bands.{shape, roots-are}
 use Rattle.writer.proofs.Nodes.{nodes-back}
@@ -69,7 +68,7 @@ module _ (page₀ page done : List ℕ) (n : ℕ) (s : Stage page₀ page done n
   stage-room a some fits =
       record {
         some = omega (arith, length-drop from keys, ap length is);
-        ordered = rw is (to-ascending p a);
+        ordered = rw is (ascending-of p a);
         room = omega (arith, stage-length page₀ page done n s, s .room);
         within = omega (arith, s .whole);
         fits = rw is fits;

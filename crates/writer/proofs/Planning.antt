@@ -11,7 +11,7 @@ use Rattle.format.specs.Seq.{total, numbersFrom}
 use Rattle.format.specs.Trie.{parents, levelsOver}
 use Rattle.format.specs.Image.{bands}
 use Rattle.format.specs.Writer.{bandsOf, pagesOf, rootsIn}
-use Rattle.format.proofs.Members.{of-ascending}
+use Rattle.format.proofs.Members.{of-ascending, ascending-of}
 use Rattle.format.proofs.RunHeads.{heads}
 use Rattle.format.proofs.Runs.{bandOver, bands-of-keys}
 use Rattle.writer.specs.declared.run.BandCounts.{BandCounts}
@@ -19,7 +19,6 @@ use Rattle.writer.specs.Run.{Prefixes, BandCounted, bandAbove, rootsAbov
 use Rattle.writer.specs.Image.{countsOf, pagesIn}
 use Rattle.writer.specs.Planning.{usedUp, FirstPass}
 use Rattle.writer.proofs.Stores.{length-zeros}
-use Rattle.writer.proofs.Ascending.{to-ascending}
 use Rattle.writer.proofs.Runs.{rest-run}
 use Rattle.writer.proofs.Bands.{roots-is, heads-few}
 use Rattle.writer.proofs.Pages.{heads-listed}
@@ -39,7 +38,7 @@ pub roots-prefixes : (q : List ℕ) → Prefixes q → Prefixes (rootsAbove q)
 roots-prefixes [] p = unfold rootsAbove parents in p
 roots-prefixes (x ∷ q) p =
     let l = heads-listed 4 _ _ (x ∷ q) (rest-run (x ∷ q) 0 (of-ascending (x ∷ q) (p .ordered)) (omega arith)) in
-    rw (roots-is (x ∷ q)) (record { few = omega (arith, heads-few 4 (x ∷ q), p .few); ordered = to-ascending (heads 4 (x ∷ q)) (l .asc) })
+    rw (roots-is (x ∷ q)) (record { few = omega (arith, heads-few 4 (x ∷ q), p .few); ordered = ascending-of (heads 4 (x ∷ q)) (l .asc) })
 
 -- ---- the first pass
 

@@ -7,7 +7,6 @@ use native.Mathlib.Omega.{arith}
 use lib.ListN.{length, getD, take, drop, length-append, length-drop, take-append-drop}
 use lib.Seq.{take-all, take-append-le, take-take, drop-at, length-take-le, getD-at}
 use Rattle.format.specs.Seq.{total}
-use Rattle.format.specs.Image.{bands}
 use Rattle.format.specs.Writer.{bandsOf, pagesOf, rootsIn}
 use Rattle.format.proofs.WrittenPages.{length-bandBytes}
 use Rattle.writer.specs.declared.Plan.{Plan}

@@ -11,7 +11,7 @@ use format::OutLink;
 use format::Root;
 ghost use mathlib.Core.Path.{_≡_};
 ghost use mathlib.Core.List.{_++_};
-ghost use Prim.Native.Nat.{_+_, _-_, _*_, _≤_, _<_};
+ghost use Prim.Native.Nat.{_+_, _-_, _≤_};
 ghost use lib.ListN.{length, take, drop};
 ghost use Rattle.writer.specs.Writer.{WrittenKeys};
 ghost use Rattle.writer.specs.Run.{Prefixes};

@@ -1,7 +1,7 @@
 // Scans over the prefixes that a band's out-links lead to: ascending numbers, whose last four bits are the band's. A page of the band
 // holds the subtries above a run of them, and a subtrie ends where neighbours differ before the last four bits.
 ghost use mathlib.Core.Path.{_≡_};
-ghost use Prim.Native.Nat.{_+_, _<_, _≤_};
+ghost use Prim.Native.Nat.{_<_, _≤_};
 ghost use lib.ListN.{length};
 ghost use Rattle.format.specs.Writer.{ascending};
 ghost use Rattle.writer.specs.Run.{differ, moreNodes, joined, Prefixes, PageIs, BandCounted};

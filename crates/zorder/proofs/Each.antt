@@ -3,7 +3,6 @@
 use mathlib.Core.Path.{_≡_, refl, ap, _∙_}
 use mathlib.Core.List.{List, [], _∷_, map}
 use Prim.Native.Nat.{ℕ, zero, suc, _+_, _≤_, _<_}
-use native.Mathlib.Numerals.{add-one}
 use native.Mathlib.Omega.{arith}
 use lib.ListN.{length, getD, set}
 
@@ -13,11 +12,6 @@ module _ (f : ℕ → ℕ) where
   replaced zero l = l
   replaced (suc i) [] = []
   replaced (suc i) (x ∷ l) = f x ∷ replaced i l
-
-  pub replaced-length : (i : ℕ) (l : List ℕ) → length (replaced i l) ≡ length l
-  replaced-length zero l = refl
-  replaced-length (suc i) [] = refl
-  replaced-length (suc i) (x ∷ l) = ap suc (replaced-length i l)
 
   pub replaced-next : (i : ℕ) (l : List ℕ) → i < length l → set (replaced i l) i (f (getD (replaced i l) i 0)) ≡ replaced (i + 1) l
   replaced-next i l h = go i l h ∙ ap (λ (n : ℕ). replaced n l) (one i)

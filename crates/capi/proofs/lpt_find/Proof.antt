@@ -1,7 +1,5 @@
 -- `capi::lpt_find` meets its contract. Assumes nothing.
-use mathlib.Core.Path.{_≡_, refl, sym, ap, subst, _∙_}
-use Prim.Native.Nat.{ℕ, _≤_, _<_, _+_, _*_}
-use native.Mathlib.Omega.{arith}
+use mathlib.Core.Path.{sym, ap, _∙_}
 use Rattle.capi.proofs.Signed.{back-neg, back-pos}
 use Rattle.capi.specs.Encoding.{encodedFind}
 use Rattle.query.specs.Outcomes.{findOutcome}

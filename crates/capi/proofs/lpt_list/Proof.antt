@@ -1,5 +1,5 @@
 -- `capi::lpt_list` meets its contract. Assumes nothing.
-use mathlib.Core.Path.{_≡_, refl, sym, ap, subst, _∙_}
+use mathlib.Core.Path.{sym, ap, _∙_}
 use native.Mathlib.Omega.{arith}
 use Rattle.nodes.proofs.Numbers.{bytes-of}
 use Rattle.capi.proofs.Signed.{back-neg, back-pos}

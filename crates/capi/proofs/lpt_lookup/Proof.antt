@@ -1,8 +1,6 @@
 -- `capi::lpt_lookup` meets its contract. Assumes nothing.
-use mathlib.Core.Path.{_≡_, refl, sym, ap, subst, _∙_}
-use Prim.Native.Nat.{ℕ, _≤_, _<_, _+_, _*_}
-use native.Mathlib.Omega.{arith}
-use Rattle.capi.proofs.Signed.{back-neg, back-pos}
+use mathlib.Core.Path.{sym, ap, _∙_}
+use Rattle.capi.proofs.Signed.{back-neg}
 use Rattle.capi.specs.Encoding.{encodedLookup, lookupBuffer}
 use Rattle.query.specs.Outcomes.{lookupOutcome}
 use borrow.Author.Needs.{needs}

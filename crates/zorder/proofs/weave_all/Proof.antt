@@ -9,7 +9,7 @@ use lib.ListN.{length, getD, set, length-set}
 use Rattle.zorder.specs.Table.{IsSpreads}
 use Rattle.zorder.specs.Packed.{keyOfPacked}
 use Rattle.zorder.proofs.Spreads.{spreads, is-spreads}
-use Rattle.zorder.proofs.Each.{replaced, replaced-length, replaced-next, replaced-all}
+use Rattle.zorder.proofs.Each.{replaced, replaced-next, replaced-all}
 use Rattle.zorder.proofs.weave_all.Statement.{statement}
 use Rattle.zorder.proofs.weave_all.Tie as tie
 

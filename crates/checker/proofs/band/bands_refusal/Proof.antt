@@ -1,5 +1,4 @@
 -- `checker::band::bands_refusal` meets its contract. The loop's invariant: the bands passed got a yes throughout. Assumes nothing.
-use borrow.Author.Needs.{needs}
 use Prim.Native.Nat.{_-_}
 use native.Mathlib.Omega.{arith}
 use Rattle.checker.proofs.Images.{Passed, passed-start, passed-no, passed-next, passed-end, band-at}

@@ -1,5 +1,4 @@
 -- `checker::header::counts_positive` meets its contract. The loop's invariant: the counts passed are at least 1, so those left decide. Assumes nothing.
-use borrow.Author.Needs.{needs}
 use mathlib.Core.Path.{_≡_, refl, sym, ap, _∙_}
 use Prim.Native.Nat.{ℕ, _-_, _≤_}
 use native.Mathlib.Omega.{arith}

@@ -1,28 +1,29 @@
 -- `query::block::part` meets its contract. Assumes nothing.
-use mathlib.Core.Path.{refl, sym, ap, _∙_}
+use mathlib.Core.Path.{refl}
 use native.Mathlib.Omega.{arith}
 use borrow.Author.Needs.{needs}
-use Rattle.query.proofs.Blocks.{holder-small, slot-small, part-holder, part-slot}
+use Rattle.format.proofs.Keys.{holderOf-small, slotOf-small}
+use Rattle.query.proofs.Blocks.{part-holder, part-slot}
 use Rattle.query.proofs.block.part.Statement.{statement}
 use Rattle.query.proofs.block.part.Tie as tie
 
 mul-holder : tie.Need-mul-t5
-mul-holder c = let s = c .before .before in omega (arith, s .pre .0 .holder-is, holder-small (s .args .block .prefix))
+mul-holder c = let s = c .before .before in omega (arith, s .pre .0 .holder-is, holderOf-small (s .args .block .prefix))
 
 add-holder : tie.Need-add-t8
-add-holder c = let s = c .before .before in omega (arith, s .pre .0 .holder-is, holder-small (s .args .block .prefix), s .pre .2)
+add-holder c = let s = c .before .before in omega (arith, s .pre .0 .holder-is, holderOf-small (s .args .block .prefix), s .pre .2)
 
 add-holder-2 : tie.Need-add-t11
-add-holder-2 c = let s = c .before .before in omega (arith, s .pre .0 .holder-is, holder-small (s .args .block .prefix), s .pre .2)
+add-holder-2 c = let s = c .before .before in omega (arith, s .pre .0 .holder-is, holderOf-small (s .args .block .prefix), s .pre .2)
 
 mul-slot : tie.Need-mul-t12
-mul-slot c = let s = c .before .before .before in omega (arith, s .pre .0 .slot-is, slot-small (s .args .block .prefix))
+mul-slot c = let s = c .before .before .before in omega (arith, s .pre .0 .slot-is, slotOf-small (s .args .block .prefix))
 
 add-slot : tie.Need-add-t16
-add-slot c = let s = c .before .before .before in omega (arith, s .pre .0 .slot-is, slot-small (s .args .block .prefix), s .pre .2)
+add-slot c = let s = c .before .before .before in omega (arith, s .pre .0 .slot-is, slotOf-small (s .args .block .prefix), s .pre .2)
 
 add-slot-2 : tie.Need-add-t18
-add-slot-2 c = let s = c .before .before .before in omega (arith, s .pre .0 .slot-is, slot-small (s .args .block .prefix), s .pre .2)
+add-slot-2 c = let s = c .before .before .before in omega (arith, s .pre .0 .slot-is, slotOf-small (s .args .block .prefix), s .pre .2)
 
 returns : tie.Need-returns
 returns c =

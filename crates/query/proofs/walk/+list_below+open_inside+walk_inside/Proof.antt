@@ -1,7 +1,7 @@
 -- The proof of the cycle of calls {list_below, open_inside, walk_inside}. The measure is the bands left; the walker's loop ends with the out-links of the
 -- subtrie, the opener's with a subtrie of several out-links or a key.
 -- Assumes nothing.
-use mathlib.Core.Path.{refl, sym, ap, _∙_}
+use mathlib.Core.Path.{refl, ap, _∙_}
 use Prim.Native.Nat.{ℕ, _+_, _-_, _*_, _<_}
 use native.Mathlib.Omega.{arith}
 use lib.ListN.{length}
@@ -11,7 +11,7 @@ use Rattle.query.specs.Walk.{every}
 use Rattle.query.proofs.Endings.{power-positive}
 use Rattle.query.proofs.Places.{listed-one}
 use Rattle.query.proofs.Chains.{Chain, chain-start, chain-end, chain-walking, chain-some, chain-fits, chain-under, chain-listed, chain-key, chain-next, chain-put}
-use Rattle.query.proofs.Steps.{listed-same, members-key, room-one, room-same, root-there}
+use Rattle.query.proofs.Steps.{members-key, room-one, room-same, root-there}
 use Rattle.query.proofs.Walked.{Walk, walk-start, walk-rest, walk-first, walk-on, walk-next, walk-end, walked-key, walked-link, walked-on, walked-opening, walked-room}
 use Rattle.query.proofs.walk.list_below.Reads as list-below
 use Rattle.query.proofs.walk.list_below.Kinds as list-below-kinds

@@ -1,17 +1,16 @@
 -- The proof of the cycle of calls {list_block, open_band, walk_subtrie}. The measure is the bands left; the walker's loop ends with the out-links of the
 -- subtrie.
 -- Assumes nothing.
-use mathlib.Core.Path.{_≡_, refl, sym, ap, subst, _∙_}
-use Prim.Native.Nat.{ℕ, _+_, _-_, _*_, _<_, _^_, _≤_}
+use mathlib.Core.Path.{ap}
+use Prim.Native.Nat.{ℕ, _+_, _-_, _*_, _<_}
 use native.Mathlib.Omega.{arith}
 use borrow.Fn.Kinds.{In}
 use borrow.Fn.PlainCycle.{Measures, is, falls, and}
-use lib.ListN.{length}
 use Rattle.format.specs.Answer.{inside}
 use borrow.Author.Needs.{needs}
 use Rattle.query.proofs.Endings.{power-positive}
 use Rattle.query.proofs.Places.{listed-none}
-use Rattle.query.proofs.Steps.{block-bits, block-half, block-short, listed-same, members-cut, members-every, members-key, members-nine, members-same, place-apart, place-covers, prefix-fits, room-one, room-same, root-there, walking-start}
+use Rattle.query.proofs.Steps.{block-half, block-short, listed-same, members-cut, members-every, members-key, members-nine, members-same, place-apart, place-covers, prefix-fits, room-one, room-same, root-there, walking-start}
 use Rattle.query.proofs.Walked.{Walk, walk-start, walk-rest, walk-first, walk-on, walk-next, walk-end, walked-link, walked-on, walked-opening, walked-room}
 use Rattle.query.proofs.walk.list_block.Reads as list-block
 use Rattle.query.proofs.walk.list_block.Kinds as list-block-kinds

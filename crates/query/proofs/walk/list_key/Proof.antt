@@ -1,6 +1,5 @@
 -- `query::walk::list_key` meets its contract. Assumes nothing.
-use mathlib.Core.Bool.{true}
-use mathlib.Core.Path.{sym, ap, _∙_}
+use mathlib.Core.Path.{sym, _∙_}
 use borrow.Author.Needs.{needs}
 use Rattle.format.specs.Seq.{consIf, select}
 use Rattle.query.proofs.Places.{listed-none, listed-one}

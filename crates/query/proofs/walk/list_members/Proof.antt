@@ -1,15 +1,9 @@
 -- `query::walk::list_members` meets its contract. Assumes nothing.
-use mathlib.Core.Path.{_≡_, sym, ap, subst, _∙_}
-use Prim.Native.Nat.{ℕ}
+use mathlib.Core.Path.{sym, ap, _∙_}
 use native.Mathlib.Omega.{arith}
 use borrow.Author.Needs.{needs}
 use lib.ListN.{length}
-use Rattle.format.specs.declared.Rectangle.{Rectangle}
 use Rattle.format.specs.Image.{keyCount}
-use Rattle.format.proofs.Cells.{Covers}
-use Rattle.query.specs.declared.block.Place.{Place}
-use Rattle.query.specs.declared.block.Place.the-variants.{Inside}
-use Rattle.query.specs.Block.{PlaceRight}
 use Rattle.query.proofs.Kept.{no-spots}
 use Rattle.query.proofs.Places.{listed-none}
 use Rattle.query.proofs.Steps.{listed-same}

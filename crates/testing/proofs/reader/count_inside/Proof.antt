@@ -1,8 +1,7 @@
 -- `testing::reader::count_inside` meets its contract. Assumes nothing.
-use Prim.Native.Nat.{_+_, _-_, _*_, _≤_, _<_}
+use Prim.Native.Nat.{_-_, _≤_}
 use native.Mathlib.Omega.{arith}
 use mathlib.Core.Logic.{⊎-elim}
-use lib.ListN.{length}
 use borrow.Author.Needs.{needs}
 use Rattle.testing.proofs.reader.count_inside.Statement.{statement}
 use Rattle.testing.proofs.reader.count_inside.Tie as tie

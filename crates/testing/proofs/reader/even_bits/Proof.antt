@@ -1,5 +1,5 @@
 -- `testing::reader::even_bits` meets its contract. Assumes nothing.
-use Prim.Native.Nat.{_+_, _-_, _*_, _≤_, _<_}
+use Prim.Native.Nat.{_-_, _≤_, _<_}
 use borrow.Author.Needs.{needs}
 use Rattle.testing.proofs.reader.even_bits.Statement.{statement}
 use Rattle.testing.proofs.reader.even_bits.Tie as tie

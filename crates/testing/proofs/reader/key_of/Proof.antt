@@ -1,5 +1,5 @@
 -- `testing::reader::key_of` meets its contract. Assumes nothing.
-use Prim.Native.Nat.{_+_, _-_, _*_, _≤_, _<_}
+use Prim.Native.Nat.{_-_, _≤_, _<_}
 use borrow.Author.Needs.{needs}
 use Rattle.testing.proofs.reader.key_of.Statement.{statement}
 use Rattle.testing.proofs.reader.key_of.Tie as tie

@@ -1,6 +1,5 @@
 -- `testing::reader::rank_of` meets its contract. Assumes nothing.
-use Prim.Native.Nat.{_+_, _-_, _*_, _≤_, _<_}
-use lib.ListN.{length}
+use Prim.Native.Nat.{_-_, _≤_}
 use borrow.Author.Needs.{needs}
 use Rattle.testing.proofs.reader.rank_of.Statement.{statement}
 use Rattle.testing.proofs.reader.rank_of.Tie as tie
