@@ -6,7 +6,7 @@ use mathlib.Core.List.{List}
 use lib.ListN.{getD, set}
 use Rattle.format.specs.Question.{isZero}
 
--- a byte with its bit k, from 0, turned over
+-- a byte with its bit k, from 0, the lowest, turned over
 unfoldable pub flipBit : ℕ → ℕ → ℕ
 flipBit k byte = cond (isZero (byte / 2 ^ k % 2)) (byte + 2 ^ k) (byte - 2 ^ k)
 

@@ -7,6 +7,7 @@ ghost use Rattle.format.specs.Question.{settle};
 ghost use Rattle.format.specs.Scan;
 ghost use Rattle.gate.specs.Gate.{outcomeOf, gateQuestions, gateRecords, timeRight, lockoutOver};
 
+// What a scan gets.
 pub enum Scanned {
     // The rank whose opening was recorded.
     Opened(u32),

@@ -5,6 +5,7 @@ pub struct Random {
     pub state: u64,
 }
 
+// The generator one step on, never at 0.
 pub fn next(r: Random) -> Random {
     Random {
         state: (r.state % 2147483646 + 1) * 48271 % 2147483647,

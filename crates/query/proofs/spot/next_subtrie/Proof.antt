@@ -15,12 +15,14 @@ use Rattle.query.proofs.spot.next_subtrie.Tie as tie
 abbrev Standing : List ℕ → List ℕ → ℕ → ℕ → Type 0
 Standing img state b root = (Spots img state) × (rootIn state b ≡ root) × (root < endIn state b)
 
-standing : (c : tie.Joined1-2) → let p = c .before .before .before .before in Standing (p .args .image .now) (c .if1 .state) (p .args .number) (p .args .root .0)
+standing : (c : tie.Joined1) → let p = c .before .before .before .before in Standing (p .args .image .now) (c .if1 .state) (p .args .number) (p .args .root .0)
 standing c =
     let q = c .before .before .before .before in
     ⊎-elim
     (λ w. subst (λ (l : List ℕ). Standing (q .args .image .now) l (q .args .number) (q .args .root .0)) (sym (w .3)) (w .2 .ensures))
-    (λ w. let p = q .pre in subst (λ (l : List ℕ). Standing (q .args .image .now) l (q .args .number) (q .args .root .0)) (sym (w .4)) (p .4, omega (arith, w .0 .left), leb-false (endIn (q .args .state .now) (q .args .number)) (q .args .root .0) (w .3 .left)))
+    (⊎-elim
+    (λ w. subst (λ (l : List ℕ). Standing (q .args .image .now) l (q .args .number) (q .args .root .0)) (sym (w .6)) (w .5 .ensures))
+    (λ w. let p = q .pre in subst (λ (l : List ℕ). Standing (q .args .image .now) l (q .args .number) (q .args .root .0)) (sym (w .4)) (p .4, omega (arith, w .0 .left), omega (arith, w .3 .left))))
     (c .if1 .came)
 
 advance-requires : tie.Need-advance-requires
@@ -39,6 +41,7 @@ pub next-subtrie-spec : {M : Type 1} → statement M
 next-subtrie-spec =
     tie.close
     (tie.spec
+    (λ c. search needs)
     (λ c. search needs)
     (λ c. search needs)
     (λ c. search needs)
