@@ -71,7 +71,7 @@ typedef struct {
 /*
  * Writes the image of a list. The admissions must be in strictly ascending order of their keys (lpt.h has
  * no sorting: docs/FORMAT.md says how a key is made). Returns the image's length and fills just that many
- * first bytes of out. Refuses with 14 to 17.
+ * first bytes of out. Refuses with 14, 15 or 17.
  */
 int64_t lpt_write(const lpt_admission *list, size_t n, uint8_t *out, size_t out_len);
 
