@@ -33,7 +33,7 @@ fn with_one(survey: Survey, n: usize) -> Survey {
 // Says that the image is accepted with a bit of byte `at` turned over, and prints its list. `bit` is 1 for bit 0, the lowest, and 128 for bit 7.
 fn say_accepted(image: &[u8], at: usize, bit: u8) {
     io::write_all(1, b"accepted with bit ");
-    io::print_decimal(1, (u32::trailing_zeros(bit as u32)) as u64);
+    io::print_decimal(1, (u32::trailing_zeros(bit as u32) % 8) as u64);
     io::write_all(1, b" of byte ");
     io::print_decimal(1, at as u64);
     io::write_all(1, b" turned over (bit 0 is the lowest):\n");
