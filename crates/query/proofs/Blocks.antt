@@ -72,6 +72,13 @@ gather-step : (d n m r : ℕ) → n / 4 ≡ m → n % 2 ≡ r → gather (suc d)
 unfolding gather
 gather-step d n m r e f = omega (arith, ap (gather d) e)
 
+-- a pair of bits more, off or on, doubles what was gathered
+double-low : (g p q : ℕ) → q ≡ p * 2 → 0 + 2 * (g * p) ≡ g * q
+double-low g p q e = rw e (omega arith)
+
+double-high : (g p q : ℕ) → q ≡ p * 2 → 1 ≤ p → 1 + 2 * (g * p + (p - 1)) ≡ g * q + (q - 1)
+double-high g p q e k = rw e (omega arith)
+
 module _ (x : ℕ) where
   lows : (h d : ℕ) → gather (h + d) (x * 2 ^ (2 * h)) ≡ gather d x * 2 ^ h
   lows zero d =
@@ -81,10 +88,7 @@ module _ (x : ℕ) where
       let s : suc h + d ≡ suc (h + d) = omega arith in
       let n : ℕ = x * 2 ^ (2 * suc h) in
       let e : n ≡ 4 * (x * 2 ^ (2 * h)) = ap (x *_) (power-twice h) ∙ omega arith in
-      ap (λ (m : ℕ). gather m n) s ∙ gather-step (h + d) n (x * 2 ^ (2 * h)) 0 (omega arith) (omega arith) ∙ ap (λ (m : ℕ). 0 + 2 * m) (lows h d) ∙ double (gather d x) (2 ^ h) (2 ^ suc h) (pow-suc 2 h)
-    where
-      double : (g p q : ℕ) → q ≡ p * 2 → 0 + 2 * (g * p) ≡ g * q
-      double g p q e = rw e (omega arith)
+      ap (λ (m : ℕ). gather m n) s ∙ gather-step (h + d) n (x * 2 ^ (2 * h)) 0 (omega arith) (omega arith) ∙ ap (λ (m : ℕ). 0 + 2 * m) (lows h d) ∙ double-low (gather d x) (2 ^ h) (2 ^ suc h) (pow-suc 2 h)
 
   highs : (h d : ℕ) → gather (h + d) (x * 2 ^ (2 * h) + (2 ^ (2 * h) - 1)) ≡ gather d x * 2 ^ h + (2 ^ h - 1)
   highs zero d =
@@ -96,10 +100,7 @@ module _ (x : ℕ) where
       let m : ℕ = x * 2 ^ (2 * h) + (2 ^ (2 * h) - 1) in
       let e : x * 2 ^ (2 * suc h) ≡ 4 * (x * 2 ^ (2 * h)) = ap (x *_) (power-twice h) ∙ omega arith in
       let q : n ≡ 4 * m + 3 = omega (arith, power-twice h, power-positive (2 * h)) in
-      ap (λ (k : ℕ). gather k n) s ∙ gather-step (h + d) n m 1 (omega arith) (omega arith) ∙ ap (λ (k : ℕ). 1 + 2 * k) (highs h d) ∙ double (gather d x) (2 ^ h) (2 ^ suc h) (pow-suc 2 h) (power-positive h)
-    where
-      double : (g p q : ℕ) → q ≡ p * 2 → 1 ≤ p → 1 + 2 * (g * p + (p - 1)) ≡ g * q + (q - 1)
-      double g p q e k = rw e (omega arith)
+      ap (λ (k : ℕ). gather k n) s ∙ gather-step (h + d) n m 1 (omega arith) (omega arith) ∙ ap (λ (k : ℕ). 1 + 2 * k) (highs h d) ∙ double-high (gather d x) (2 ^ h) (2 ^ suc h) (pow-suc 2 h) (power-positive h)
 
   -- the same of every second bit from place 1 on
   lows-half : (h d : ℕ) → gather (h + d) (x * 2 ^ (2 * h) / 2) ≡ gather d (x / 2) * 2 ^ h
@@ -110,10 +111,7 @@ module _ (x : ℕ) where
       let s : suc h + d ≡ suc (h + d) = omega arith in
       let n : ℕ = x * 2 ^ (2 * suc h) in
       let e : n ≡ 4 * (x * 2 ^ (2 * h)) = ap (x *_) (power-twice h) ∙ omega arith in
-      ap (λ (m : ℕ). gather m (n / 2)) s ∙ gather-step (h + d) (n / 2) (x * 2 ^ (2 * h) / 2) 0 (omega arith) (omega arith) ∙ ap (λ (m : ℕ). 0 + 2 * m) (lows-half h d) ∙ double (gather d (x / 2)) (2 ^ h) (2 ^ suc h) (pow-suc 2 h)
-    where
-      double : (g p q : ℕ) → q ≡ p * 2 → 0 + 2 * (g * p) ≡ g * q
-      double g p q e = rw e (omega arith)
+      ap (λ (m : ℕ). gather m (n / 2)) s ∙ gather-step (h + d) (n / 2) (x * 2 ^ (2 * h) / 2) 0 (omega arith) (omega arith) ∙ ap (λ (m : ℕ). 0 + 2 * m) (lows-half h d) ∙ double-low (gather d (x / 2)) (2 ^ h) (2 ^ suc h) (pow-suc 2 h)
 
   highs-half : (h d : ℕ) → gather (h + d) ((x * 2 ^ (2 * h) + (2 ^ (2 * h) - 1)) / 2) ≡ gather d (x / 2) * 2 ^ h + (2 ^ h - 1)
   highs-half zero d =
@@ -125,10 +123,7 @@ module _ (x : ℕ) where
       let m : ℕ = x * 2 ^ (2 * h) + (2 ^ (2 * h) - 1) in
       let e : x * 2 ^ (2 * suc h) ≡ 4 * (x * 2 ^ (2 * h)) = ap (x *_) (power-twice h) ∙ omega arith in
       let q : n ≡ 4 * m + 3 = omega (arith, power-twice h, power-positive (2 * h)) in
-      ap (λ (k : ℕ). gather k (n / 2)) s ∙ gather-step (h + d) (n / 2) (m / 2) 1 (omega arith) (omega arith) ∙ ap (λ (k : ℕ). 1 + 2 * k) (highs-half h d) ∙ double (gather d (x / 2)) (2 ^ h) (2 ^ suc h) (pow-suc 2 h) (power-positive h)
-    where
-      double : (g p q : ℕ) → q ≡ p * 2 → 1 ≤ p → 1 + 2 * (g * p + (p - 1)) ≡ g * q + (q - 1)
-      double g p q e k = rw e (omega arith)
+      ap (λ (k : ℕ). gather k (n / 2)) s ∙ gather-step (h + d) (n / 2) (m / 2) 1 (omega arith) (omega arith) ∙ ap (λ (k : ℕ). 1 + 2 * k) (highs-half h d) ∙ double-high (gather d (x / 2)) (2 ^ h) (2 ^ suc h) (pow-suc 2 h) (power-positive h)
 
 module _ (h x : ℕ) (le : h ≤ 16) (short : x < 2 ^ (32 - 2 * h)) where
   all-pairs : h + (16 - h) ≡ 16
