@@ -15,7 +15,7 @@ use Rattle.query.specs.Page.{Ready}
 use Rattle.query.specs.Cell.{Spots}
 use Rattle.query.specs.Subtrie.{asBit, setBit, SubtrieRead}
 use Rattle.query.specs.Way.{AtPrefix}
-use Rattle.query.specs.Walk.{FirstOn, Opening, Walking, Listed, every, membersBetween}
+use Rattle.query.specs.Walk.{FirstOn, Opening, Walking, Listed, anyKey, membersBetween}
 use Rattle.query.proofs.Cell.{first-bit}
 use Rattle.query.proofs.Pages.{bytes, checked}
 use Rattle.query.proofs.Places.{listed-one}
@@ -155,19 +155,19 @@ pub record Chain (img : List ℕ) (b x done : ℕ) (keys₀ : List ℕ) (number 
   pub from : b ≤ number
   pub spots : Spots img state
   pub untouched : keys ≡ keys₀
-  pub members : membersBetween img every (x * 2 ^ (36 - 4 * b)) ((x + 1) * 2 ^ (36 - 4 * b)) ≡ membersBetween img every (key * 2 ^ (36 - 4 * number)) ((key + 1) * 2 ^ (36 - 4 * number))
-  pub room : done + length (membersBetween img every (x * 2 ^ (36 - 4 * b)) ((x + 1) * 2 ^ (36 - 4 * b))) ≤ 4096
+  pub members : membersBetween img anyKey (x * 2 ^ (36 - 4 * b)) ((x + 1) * 2 ^ (36 - 4 * b)) ≡ membersBetween img anyKey (key * 2 ^ (36 - 4 * number)) ((key + 1) * 2 ^ (36 - 4 * number))
+  pub room : done + length (membersBetween img anyKey (x * 2 ^ (36 - 4 * b)) ((x + 1) * 2 ^ (36 - 4 * b))) ≤ 4096
 
 pub chain-start : {img : List ℕ} {b x done link : ℕ} {keys state : List ℕ} → Opening img b link x → Spots img state
-    → done + length (membersBetween img every (x * 2 ^ (36 - 4 * b)) ((x + 1) * 2 ^ (36 - 4 * b))) ≤ 4096 → Chain img b x done keys b link x keys state
+    → done + length (membersBetween img anyKey (x * 2 ^ (36 - 4 * b)) ((x + 1) * 2 ^ (36 - 4 * b))) ≤ 4096 → Chain img b x done keys b link x keys state
 chain-start o p r = record { opening = o; from = omega arith; spots = p; untouched = refl; members = refl; room = r }
 
 module _ {img : List ℕ} {b x done : ℕ} {keys₀ : List ℕ} {number next key : ℕ} {keys state : List ℕ} (c : Chain img b x done keys₀ number next key keys state) where
   -- after band 8: a key
-  pub chain-end : 8 < number → membersBetween img every (x * 2 ^ (36 - 4 * b)) ((x + 1) * 2 ^ (36 - 4 * b)) ≡ key ∷ []
-  chain-end h = let e : number ≡ 9 = omega (arith, c .opening .to) in c .members ∙ members-key (c .opening) e every refl
+  pub chain-end : 8 < number → membersBetween img anyKey (x * 2 ^ (36 - 4 * b)) ((x + 1) * 2 ^ (36 - 4 * b)) ≡ key ∷ []
+  chain-end h = let e : number ≡ 9 = omega (arith, c .opening .to) in c .members ∙ members-key (c .opening) e anyKey refl
 
-  pub chain-put : 8 < number → Listed (membersBetween img every (x * 2 ^ (36 - 4 * b)) ((x + 1) * 2 ^ (36 - 4 * b))) keys₀ done (set keys done key) (done + 1)
+  pub chain-put : 8 < number → Listed (membersBetween img anyKey (x * 2 ^ (36 - 4 * b)) ((x + 1) * 2 ^ (36 - 4 * b))) keys₀ done (set keys done key) (done + 1)
   chain-put h = rw (c .untouched) (listed-one key (chain-end h))
 
   module _ (h : number ≤ 8) {root on link : ℕ} (e : root ≡ next) (s : SubtrieRead img number (getD (prefixesAt img (4 * (number - 1))) root 0) on link) where
@@ -181,11 +181,11 @@ module _ {img : List ℕ} {b x done : ℕ} {keys₀ : List ℕ} {number next key
     chain-fits = set-fits chain-walking
 
     -- what is below the subtrie
-    pub chain-under : membersBetween img every (x * 2 ^ (36 - 4 * b)) ((x + 1) * 2 ^ (36 - 4 * b)) ≡ under img every number key 0 16
-    chain-under = c .members ∙ members-same (c .opening) h every
+    pub chain-under : membersBetween img anyKey (x * 2 ^ (36 - 4 * b)) ((x + 1) * 2 ^ (36 - 4 * b)) ≡ under img anyKey number key 0 16
+    chain-under = c .members ∙ members-same (c .opening) h anyKey
 
-    pub chain-listed : {after : List ℕ} {r : ℕ} → Listed (under img every number key 0 16) keys done after r → Listed (membersBetween img every (x * 2 ^ (36 - 4 * b)) ((x + 1) * 2 ^ (36 - 4 * b))) keys₀ done after r
-    chain-listed {after} {r} l = listed-same chain-under (subst (λ (k : List ℕ). Listed (under img every number key 0 16) k done after r) (c .untouched) l)
+    pub chain-listed : {after : List ℕ} {r : ℕ} → Listed (under img anyKey number key 0 16) keys done after r → Listed (membersBetween img anyKey (x * 2 ^ (36 - 4 * b)) ((x + 1) * 2 ^ (36 - 4 * b))) keys₀ done after r
+    chain-listed {after} {r} l = listed-same chain-under (subst (λ (k : List ℕ). Listed (under img anyKey number key 0 16) k done after r) (c .untouched) l)
 
     pub chain-key : {e : ℕ} → FirstOn on e → 16 * key + e < 4294967296
     chain-key o = single-fits chain-walking o
@@ -197,6 +197,6 @@ module _ {img : List ℕ} {b x done : ℕ} {keys₀ : List ℕ} {number next key
           from = omega (arith, c .from);
           spots = p;
           untouched = c .untouched;
-          members = chain-under ∙ members-single chain-walking o (sym r ∙ z) every;
+          members = chain-under ∙ members-single chain-walking o (sym r ∙ z) anyKey;
           room = c .room;
         }

@@ -24,7 +24,7 @@ use Rattle.query.specs.declared.block.Place.the-variants.{Apart, Inside}
 use Rattle.query.specs.Block.{PlaceRight}
 use Rattle.query.specs.Page.{Ready}
 use Rattle.query.specs.Subtrie.{asBit, levelSet, setBit, SubtrieRead}
-use Rattle.query.specs.Walk.{Opening, Walking, Listed, every, membersBetween}
+use Rattle.query.specs.Walk.{Opening, Walking, Listed, anyKey, membersBetween}
 use Rattle.query.proofs.Pages.{bytes, checked}
 use Rattle.query.proofs.Ranked.{links-count, links-few}
 use Rattle.query.proofs.Ranks.{Tested, member, stranger, tested, rank-next, at-rank}
@@ -69,8 +69,8 @@ module _ (img : List ℕ) (rectangle : Rectangle) (w x : ℕ) where
   members-cut p = members-outside img (inside rectangle) (x * 2 ^ w) ((x + 1) * 2 ^ w) (λ k lo hi. apart-outside rectangle w x k p (in-cell w x k lo hi))
 
   -- every key is inside
-  pub members-every : Covers rectangle w x → membersBetween img (inside rectangle) (x * 2 ^ w) ((x + 1) * 2 ^ w) ≡ membersBetween img every (x * 2 ^ w) ((x + 1) * 2 ^ w)
-  members-every p = members-agree img (inside rectangle) every (x * 2 ^ w) ((x + 1) * 2 ^ w) (λ k lo hi. covers-inside rectangle w x k p (in-cell w x k lo hi))
+  pub members-every : Covers rectangle w x → membersBetween img (inside rectangle) (x * 2 ^ w) ((x + 1) * 2 ^ w) ≡ membersBetween img anyKey (x * 2 ^ w) ((x + 1) * 2 ^ w)
+  members-every p = members-agree img (inside rectangle) anyKey (x * 2 ^ w) ((x + 1) * 2 ^ w) (λ k lo hi. covers-inside rectangle w x k p (in-cell w x k lo hi))
 
 module _ {img : List ℕ} {b link x : ℕ} (o : Opening img b link x) where
   module _ (z : b ≡ 9) where

@@ -20,11 +20,11 @@ use Rattle.query.specs.declared.block.Place.{Place}
 use Rattle.query.specs.declared.block.Place.the-variants.{Inside}
 use Rattle.query.specs.Block.{PlaceRight}
 use Rattle.query.specs.Page.{Ready}
-use Rattle.query.specs.Walk.{Opening, every, membersBetween}
+use Rattle.query.specs.Walk.{Opening, anyKey, membersBetween}
 use Rattle.query.proofs.Between.{all-between}
 use Rattle.query.proofs.Steps.{members-every}
 
-select-every : (l : List ℕ) → select every l ≡ l
+select-every : (l : List ℕ) → select anyKey l ≡ l
 unfolding select consIf
 select-every [] = refl
 select-every (k ∷ l) = ap (k ∷_) (select-every l)
@@ -59,12 +59,12 @@ module _ {img : List ℕ} (a : Accepted img) (rectangle : Rectangle) where
 
   -- the whole square
   module _ (p : Covers rectangle 32 0) where
-    pub members-all : memberKeys img rectangle ≡ membersBetween img every (0 * 2 ^ 32) ((0 + 1) * 2 ^ 32)
+    pub members-all : memberKeys img rectangle ≡ membersBetween img anyKey (0 * 2 ^ 32) ((0 + 1) * 2 ^ 32)
     members-all = sym members-whole ∙ members-every img rectangle 32 0 p
 
     pub count-all : length (memberKeys img rectangle) ≡ keyCount img
     unfolding membersBetween
-    count-all = ap length (members-all ∙ ap (select every) (all-between (keysOf img) 0 4294967296 (within (keysOf img) (facts img a .keys .fits))) ∙ select-every (keysOf img)) ∙ facts img a .keys .count-is
+    count-all = ap length (members-all ∙ ap (select anyKey) (all-between (keysOf img) 0 4294967296 (within (keysOf img) (facts img a .keys .fits))) ∙ select-every (keysOf img)) ∙ facts img a .keys .count-is
 
 -- the block of all keys
 pub whole-covers : (rectangle : Rectangle) {x : ℕ} {p : Place} → PlaceRight rectangle 32 x p → p ≡ Inside → x ≡ 0 → Covers rectangle 32 0

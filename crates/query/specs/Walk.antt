@@ -21,8 +21,8 @@ between lo hi k = leb lo k && ltb k hi
 unfoldable pub membersBetween : List ℕ → (ℕ → Bool) → ℕ → ℕ → List ℕ
 membersBetween img f lo hi = select f (select (between lo hi) (keysOf img))
 
-abbrev pub every : ℕ → Bool
-every k = true
+abbrev pub anyKey : ℕ → Bool
+anyKey k = true
 
 -- the first on bit of a set of 16 bits, 0's the highest
 pub record FirstOn (set e : ℕ) : Type 0 where

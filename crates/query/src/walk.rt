@@ -10,7 +10,7 @@ ghost use Rattle.format.specs.Exact.{Accepted};
 ghost use Rattle.format.specs.Seq.{select};
 ghost use Rattle.query.specs.Cell.{Spots};
 ghost use Rattle.query.specs.Block.{BlockOf};
-ghost use Rattle.query.specs.Walk.{FirstOn, Opening, Walking, Listed, every, membersBetween};
+ghost use Rattle.query.specs.Walk.{FirstOn, Opening, Walking, Listed, anyKey, membersBetween};
 use crate::block::Block;
 use crate::block::Place;
 use crate::block::contains;
@@ -71,8 +71,8 @@ fn open_inside(
     link: OutLink,
     prefix: u32,
 ) -> usize
-    requires { ⌜ (Opening (now image) band (link .0) prefix) × (Spots (now image) (now state)) × (done + length (membersBetween (now image) every (prefix * 2 ^ (36 - 4 * band)) ((prefix + 1) * 2 ^ (36 - 4 * band))) ≤ 4096) ⌝ }
-    ensures { λ r. ⌜ (Listed (membersBetween (now (image .entry)) every (prefix * 2 ^ (36 - 4 * band)) ((prefix + 1) * 2 ^ (36 - 4 * band))) (now (keys .entry)) done (now (keys .exit)) r) × (Spots (now (image .entry)) (now (state .exit))) ⌝ }
+    requires { ⌜ (Opening (now image) band (link .0) prefix) × (Spots (now image) (now state)) × (done + length (membersBetween (now image) anyKey (prefix * 2 ^ (36 - 4 * band)) ((prefix + 1) * 2 ^ (36 - 4 * band))) ≤ 4096) ⌝ }
+    ensures { λ r. ⌜ (Listed (membersBetween (now (image .entry)) anyKey (prefix * 2 ^ (36 - 4 * band)) ((prefix + 1) * 2 ^ (36 - 4 * band))) (now (keys .entry)) done (now (keys .exit)) r) × (Spots (now (image .entry)) (now (state .exit))) ⌝ }
 {
     let mut number = band;
     let mut next = link;
@@ -101,8 +101,8 @@ fn list_below(
     link: OutLink,
     prefix: u32,
 ) -> usize
-    requires { ⌜ (Opening (now image) band (link .0) prefix) × (Spots (now image) (now state)) × (done + length (membersBetween (now image) every (prefix * 2 ^ (36 - 4 * band)) ((prefix + 1) * 2 ^ (36 - 4 * band))) ≤ 4096) ⌝ }
-    ensures { λ r. ⌜ (Listed (membersBetween (now (image .entry)) every (prefix * 2 ^ (36 - 4 * band)) ((prefix + 1) * 2 ^ (36 - 4 * band))) (now (keys .entry)) done (now (keys .exit)) r) × (Spots (now (image .entry)) (now (state .exit))) ⌝ }
+    requires { ⌜ (Opening (now image) band (link .0) prefix) × (Spots (now image) (now state)) × (done + length (membersBetween (now image) anyKey (prefix * 2 ^ (36 - 4 * band)) ((prefix + 1) * 2 ^ (36 - 4 * band))) ≤ 4096) ⌝ }
+    ensures { λ r. ⌜ (Listed (membersBetween (now (image .entry)) anyKey (prefix * 2 ^ (36 - 4 * band)) ((prefix + 1) * 2 ^ (36 - 4 * band))) (now (keys .entry)) done (now (keys .exit)) r) × (Spots (now (image .entry)) (now (state .exit))) ⌝ }
 {
     if band == 9 {
         return put(keys, done, prefix);
@@ -121,8 +121,8 @@ fn walk_inside(
     link: OutLink,
     prefix: u32,
 ) -> usize
-    requires { ⌜ (Walking (now image) number set (link .0) prefix 0) × (Spots (now image) (now state)) × (done + length (membersBetween (now image) every ((16 * prefix + 0) * 2 ^ (36 - 4 * (number + 1))) ((16 * prefix + 16) * 2 ^ (36 - 4 * (number + 1)))) ≤ 4096) ⌝ }
-    ensures { λ r. ⌜ (Listed (membersBetween (now (image .entry)) every ((16 * prefix + 0) * 2 ^ (36 - 4 * (number + 1))) ((16 * prefix + 16) * 2 ^ (36 - 4 * (number + 1)))) (now (keys .entry)) done (now (keys .exit)) r) × (Spots (now (image .entry)) (now (state .exit))) ⌝ }
+    requires { ⌜ (Walking (now image) number set (link .0) prefix 0) × (Spots (now image) (now state)) × (done + length (membersBetween (now image) anyKey ((16 * prefix + 0) * 2 ^ (36 - 4 * (number + 1))) ((16 * prefix + 16) * 2 ^ (36 - 4 * (number + 1)))) ≤ 4096) ⌝ }
+    ensures { λ r. ⌜ (Listed (membersBetween (now (image .entry)) anyKey ((16 * prefix + 0) * 2 ^ (36 - 4 * (number + 1))) ((16 * prefix + 16) * 2 ^ (36 - 4 * (number + 1)))) (now (keys .entry)) done (now (keys .exit)) r) × (Spots (now (image .entry)) (now (state .exit))) ⌝ }
 {
     let mut n = done;
     let mut next = link;

@@ -7,7 +7,7 @@ use native.Mathlib.Omega.{arith}
 use lib.ListN.{length}
 use borrow.Fn.Kinds.{In}
 use borrow.Fn.PlainCycle.{Measures, is, falls, and}
-use Rattle.query.specs.Walk.{every}
+use Rattle.query.specs.Walk.{anyKey}
 use Rattle.query.proofs.Endings.{power-positive}
 use Rattle.query.proofs.Places.{listed-one}
 use Rattle.query.proofs.Chains.{Chain, chain-start, chain-end, chain-walking, chain-some, chain-fits, chain-under, chain-listed, chain-key, chain-next, chain-put}
@@ -86,7 +86,7 @@ walk-calls t = (first-on-reads.Asked, first-on-reads.Learnt, without-reads.Asked
 list-put-requires : (t : ℕ) → list-below-lts.Need-put-requires (list-calls t) (list-below-at t) list-below.Post
 list-put-requires t c κs =
     let p = c .before .before .before .before .pre .1 in
-    room-one _ _ _ _ (members-key (p .0) (c .before .if1 .taken) every refl) (p .2)
+    room-one _ _ _ _ (members-key (p .0) (c .before .if1 .taken) anyKey refl) (p .2)
 
 list-same-length : (t : ℕ) → list-below-lts.Need-same-length (list-calls t) (list-below-at t) list-below.Post
 list-same-length t c = c .before .before .put .kept .0
@@ -96,7 +96,7 @@ list-returns t c =
     let u = c .before .before in
     let i = u .before .before in
     let p = i .before .before .before .pre .1 in
-    (rw (u .put .ensures .0, u .put .ensures .1) (listed-one _ (members-key (p .0) (i .if1 .taken) every refl)), p .1)
+    (rw (u .put .ensures .0, u .put .ensures .1) (listed-one _ (members-key (p .0) (i .if1 .taken) anyKey refl)), p .1)
 
 list-open-requires : (t : ℕ) → list-below-lts.Need-open-inside-requires (list-calls t) (list-below-at t) list-below.Post
 list-open-requires t c κs =
@@ -198,7 +198,7 @@ open-returns-2 t c =
 -- ---- the walker
 
 abbrev Inv-walk : walk-inside-lts.InvT-loop
-Inv-walk image keys₀ state₀ done number set prefix n₀ next₀ rest₀ keys state n next rest = Walk image every number set prefix done keys₀ n (next .0) rest keys state
+Inv-walk image keys₀ state₀ done number set prefix n₀ next₀ rest₀ keys state n next rest = Walk image anyKey number set prefix done keys₀ n (next .0) rest keys state
 
 abbrev μ-walk : walk-inside-lts.MeasureT-loop
 μ-walk image keys₀ state₀ done number set prefix n₀ next₀ rest₀ keys state n next rest = rest
