@@ -9,7 +9,6 @@ use crate::page::PageHead;
 use crate::page::band_at;
 use crate::page::head_above;
 use crate::page::node_count;
-use crate::page::number_at;
 use crate::select::on_bit;
 use format::OutLink;
 use format::Root;
@@ -58,7 +57,7 @@ pub fn key_at(image: &[u8], rank: usize) -> u32
     let mut unit = 1u64;
     let mut number = 8usize;
     while 0 < number {
-        first -= number_at(image, 4 + 4 * number);
+        first -= checker::header::number(image, 4 + 4 * number);
         let band = band_at(image, number, first);
         let head = head_above(image, band, below);
         let climbed = climb(image, head, below);

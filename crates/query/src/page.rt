@@ -2,7 +2,6 @@
 ghost use mathlib.Core.Path.{_≡_};
 ghost use Prim.Native.Nat.{_+_, _-_, _*_, _≤_, _<_};
 ghost use lib.ListN.{length, getD};
-ghost use Rattle.format.specs.Page.{numberAt};
 ghost use Rattle.format.specs.Image.{pageB, pageNumber, pageCount, rootCount, nextT, outLinkCount};
 ghost use Rattle.format.specs.Question.{outLinksDue};
 ghost use Rattle.query.specs.Page.{Ready, BandRead, HeadRead, PageRead, LastPage, headAt};
@@ -44,21 +43,6 @@ pub struct PageHead {
     pub links: usize,
 }
 
-// Two bytes as a number, the higher first.
-fn join(high: u8, low: u8) -> usize
-    ensures { λ r. ⌜ (r ≡ 256 * high + low) × (r < 65536) ⌝ }
-{
-    256 * (high as usize) + (low as usize)
-}
-
-// The number that stands at a place.
-pub fn number_at(image: &[u8], at: usize) -> usize
-    requires { ⌜ at + 2 ≤ length (now image) ⌝ }
-    ensures { λ r. ⌜ (r ≡ numberAt (now (image .entry)) at) × (r < 65536) ⌝ }
-{
-    join(image[at], image[at + 1])
-}
-
 // Band `number` of the image, whose first page has the number `first`.
 pub fn band_at(image: &[u8], number: usize, first: usize) -> Band
     requires { ⌜ (Ready (now image)) × (1 ≤ number) × (number ≤ 8) × (first ≡ pageNumber (now image) number 0) ⌝ }
@@ -67,8 +51,8 @@ pub fn band_at(image: &[u8], number: usize, first: usize) -> Band
     Band {
         number,
         first,
-        pages: number_at(image, 4 + 4 * number),
-        roots: number_at(image, 6 + 4 * number),
+        pages: checker::header::number(image, 4 + 4 * number),
+        roots: checker::header::number(image, 6 + 4 * number),
     }
 }
 
@@ -77,7 +61,7 @@ fn head_at(image: &[u8], band: Band, field: usize, index: usize) -> usize
     requires { ⌜ (Ready (now image)) × (BandRead (now image) band) × (field ≤ 2) × (index < pageCount (now image) (band .number)) ⌝ }
     ensures { λ r. ⌜ (r ≡ headAt (now (image .entry)) (band .number) field index) × (r < 65536) ⌝ }
 {
-    number_at(image, 64 * (band.first + index) + field)
+    checker::header::number(image, 64 * (band.first + index) + field)
 }
 
 // The last page of the band whose T, or for `field` 2 whose B, is at or below `x`. The first page's is.
@@ -118,9 +102,9 @@ fn next_b(image: &[u8], band: Band, index: usize) -> usize
         return head_at(image, band, 2, index + 1);
     }
     if band.number < 8 {
-        return number_at(image, 10 + 4 * band.number);
+        return checker::header::number(image, 10 + 4 * band.number);
     }
-    number_at(image, 6)
+    checker::header::number(image, 6)
 }
 
 // The head of page `index` of the band.

@@ -16,7 +16,6 @@ use crate::block::Place;
 use crate::block::contains;
 use crate::block::part;
 use crate::block::place_of;
-use crate::page::number_at;
 use crate::spot::next_subtrie;
 use format::OutLink;
 use format::Rectangle;
@@ -235,7 +234,7 @@ pub fn list_members(image: &[u8], rectangle: Rectangle, keys: &mut [u32]) -> usi
     requires { ⌜ Accepted (now image) ⌝ }
     ensures { λ r. ⌜ Listed (memberKeys (now (image .entry)) rectangle) (now (keys .entry)) 0 (now (keys .exit)) r ⌝ }
 {
-    if number_at(image, 6) == 0 {
+    if checker::header::number(image, 6) == 0 {
         return 0;
     }
     let mut state = [0usize; 64];
@@ -260,7 +259,7 @@ pub fn count_members(image: &[u8], rectangle: Rectangle) -> usize
     ensures { λ r. ⌜ (r ≡ length (memberKeys (now (image .entry)) rectangle)) × (r ≤ 4096) ⌝ }
 {
     match place_of(rectangle, 16, whole()) {
-        Place::Inside => number_at(image, 6),
+        Place::Inside => checker::header::number(image, 6),
         _ => {
             let mut scratch = [0u32; 1];
             list_members(image, rectangle, &mut scratch)

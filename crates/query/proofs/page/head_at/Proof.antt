@@ -7,14 +7,14 @@ use Rattle.query.proofs.Opened.{number-is, in-image}
 use Rattle.query.proofs.page.head_at.Statement.{statement}
 use Rattle.query.proofs.page.head_at.Tie as tie
 
-number-at-requires : tie.Need-number-at-requires
-number-at-requires c κs = let p = c .before .before .pre in omega (arith, in-image (p .0) (p .1) (p .3))
+number-requires : tie.Need-number-requires
+number-requires c κs = let p = c .before .before .pre in omega (arith, in-image (p .0) (p .1) (p .3))
 
 returns : tie.Need-returns
 returns c =
     let s = c .before .before .before in
     let e = number-is (s .pre .0) (s .pre .1) (s .pre .3) in
-    (c .number-at .ensures .0 ∙ ap (λ (n : ℕ). numberAt (s .args .image .now) (64 * n + s .args .field)) e, c .number-at .ensures .1)
+    (c .number .ensures .0 ∙ ap (λ (n : ℕ). numberAt (s .args .image .now) (64 * n + s .args .field)) e, c .number .ensures .1)
 
 pub head-at-spec : {M : Type 1} → statement M
 head-at-spec =
@@ -23,5 +23,5 @@ head-at-spec =
     (λ c. let p = c .before .before .pre in omega (arith, in-image (p .0) (p .1) (p .3)))
     (λ c. let p = c .before .before .pre in omega (arith, in-image (p .0) (p .1) (p .3)))
     (λ c. let p = c .before .before .pre in omega (arith, in-image (p .0) (p .1) (p .3)))
-    number-at-requires
+    number-requires
     returns)

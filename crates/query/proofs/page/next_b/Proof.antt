@@ -12,18 +12,18 @@ returns c =
     let p = c .before .before .before .before .pre in
     c .head-at .ensures .0 ∙ next-B (p .0) _ (p .1 .from) (p .1 .to) _ (omega (arith, p .1 .pages, c .before .if1 .taken))
 
-number-at-requires : tie.Need-number-at-requires
-number-at-requires c κs = omega (arith, header-long (c .before .before .before .before .before .before .pre .0), c .before .if2 .taken)
+number-requires : tie.Need-number-requires
+number-requires c κs = omega (arith, header-long (c .before .before .before .before .before .before .pre .0), c .before .if2 .taken)
 
 returns-2 : tie.Need-returns-2
 returns-2 c =
     let p = c .before .before .before .before .before .before .before .pre in
-    c .number-at .ensures .0 ∙ next-B-roots (p .0) _ (p .1 .from) (p .1 .to) _ (p .2) (omega (arith, p .1 .pages, c .before .before .before .before .if1 .left)) (c .before .before .if2 .taken)
+    c .number .ensures .0 ∙ next-B-roots (p .0) _ (p .1 .from) (p .1 .to) _ (p .2) (omega (arith, p .1 .pages, c .before .before .before .before .if1 .left)) (c .before .before .if2 .taken)
 
 returns-3 : tie.Need-returns-3
 returns-3 c =
     let p = c .before .before .before .before .before .before .pre in
-    c .number-at2 .ensures .0 ∙ next-B-keys (p .0) _ (p .1 .from) (p .1 .to) _ (p .2) (omega (arith, p .1 .pages, c .before .before .before .if1 .left)) (c .before .if2 .left)
+    c .number2 .ensures .0 ∙ next-B-keys (p .0) _ (p .1 .from) (p .1 .to) _ (p .2) (omega (arith, p .1 .pages, c .before .before .before .if1 .left)) (c .before .if2 .left)
 
 pub next-b-spec : {M : Type 1} → statement M
 next-b-spec =
@@ -35,7 +35,7 @@ next-b-spec =
     returns
     (λ c. search needs)
     (λ c. search needs)
-    number-at-requires
+    number-requires
     returns-2
     (λ c κs. omega (arith, header-long (c .before .before .before .before .before .pre .0)))
     returns-3)

@@ -9,8 +9,8 @@ use Rattle.query.proofs.walk.count_members.Tie as tie
 place-of-requires : tie.Need-place-of-requires
 place-of-requires c κs = (omega arith, c .whole .ensures .1, rw (c .whole .ensures .0) (omega arith))
 
-number-at-requires : tie.Need-number-at-requires
-number-at-requires c κs = omega (arith, image-long (c .before .before .before .before .before .pre))
+number-requires : tie.Need-number-requires
+number-requires c κs = omega (arith, image-long (c .before .before .before .before .before .pre))
 
 returns : tie.Need-returns
 unfolding keyCount
@@ -19,7 +19,7 @@ returns c =
     let s = m .before .before .before in
     let p = whole-covers (s .args .rectangle) (m .place-of .ensures) (c .before .enum-told .given .1) (m .before .whole .ensures .0) in
     let e = count-all (s .pre) (s .args .rectangle) p in
-    (omega (arith, c .number-at .ensures .0, e), omega (arith, c .number-at .ensures .0, e, members-few (s .pre) (s .args .rectangle)))
+    (omega (arith, c .number .ensures .0, e), omega (arith, c .number .ensures .0, e, members-few (s .pre) (s .args .rectangle)))
 
 returns-2 : tie.Need-returns-2
 returns-2 c =
@@ -29,4 +29,4 @@ returns-2 c =
 
 pub count-members-spec : {M : Type 1} → statement M
 count-members-spec =
-    tie.close (tie.spec (λ c κs. search needs) place-of-requires (λ c. search needs) number-at-requires (λ c. search needs) (λ c κs. search needs) returns returns-2)
+    tie.close (tie.spec (λ c κs. search needs) place-of-requires (λ c. search needs) number-requires (λ c. search needs) (λ c κs. search needs) returns returns-2)

@@ -11,12 +11,12 @@ use Rattle.query.proofs.Whole.{image-long, ready-of, no-members, member
 use Rattle.query.proofs.walk.list_members.Statement.{statement}
 use Rattle.query.proofs.walk.list_members.Tie as tie
 
-number-at-requires : tie.Need-number-at-requires
-number-at-requires c κs = omega (arith, image-long (c .before .before .pre))
+number-requires : tie.Need-number-requires
+number-requires c κs = omega (arith, image-long (c .before .before .pre))
 
 returns : tie.Need-returns
 unfolding keyCount
-returns c = let s = c .before .before .before .before in listed-none (no-members (s .pre) _ (sym (c .before .number-at .ensures .0) ∙ c .if1 .taken))
+returns c = let s = c .before .before .before .before in listed-none (no-members (s .pre) _ (sym (c .before .number .ensures .0) ∙ c .if1 .taken))
 
 place-of-requires : tie.Need-place-of-requires
 place-of-requires c κs = (omega arith, c .whole .ensures .1, rw (c .whole .ensures .0) (omega arith))
@@ -28,7 +28,7 @@ open-inside-requires c κs =
     let n = m .before .before .before in
     let s = n .before .before .before in
     let p = whole-covers (s .args .rectangle) (m .place-of .ensures) (c .before .before .enum-told .given .1) (m .before .whole .ensures .0) in (
-      opening-start (ready-of (s .pre) (λ z. m .before .before .if1 .left (n .number-at .ensures .0 ∙ z))),
+      opening-start (ready-of (s .pre) (λ z. m .before .before .if1 .left (n .number .ensures .0 ∙ z))),
       no-spots (s .args .image .now),
       omega (arith, ap length (members-all (s .pre) (s .args .rectangle) p), members-few (s .pre) (s .args .rectangle)),
     )
@@ -40,7 +40,7 @@ open-band-requires c κs =
     let n = m .before .before .before in
     let s = n .before .before .before in
     let e = c .whole2 .ensures .0 in (
-      rw e (opening-start (ready-of (s .pre) (λ z. m .before .before .if1 .left (n .number-at .ensures .0 ∙ z)))),
+      rw e (opening-start (ready-of (s .pre) (λ z. m .before .before .if1 .left (n .number .ensures .0 ∙ z)))),
       omega arith,
       c .whole2 .ensures .1,
       no-spots (s .args .image .now),
@@ -63,7 +63,7 @@ pub list-members-spec : {M : Type 1} → statement M
 list-members-spec =
     tie.close
     (tie.spec
-    number-at-requires
+    number-requires
     returns
     (λ c κs. search needs)
     place-of-requires
