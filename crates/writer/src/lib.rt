@@ -234,7 +234,7 @@ pub fn write(list: &[Admission], out: &mut [u8]) -> Written
     list::fill_packed(&mut keys, n, out, plan)
 }
 
-// The same for a caller that owns an array of admissions, of which the first `n` are the list: it needs no proof by hand.
+// The same for a caller that owns an array of admissions, of which the first `n` are the list. Such a caller needs no proof by hand.
 pub fn write_first(list: [Admission; 4096], n: usize, out: &mut [u8]) -> Written
     requires { ⌜ n ≤ 4096 ⌝ }
     ensures { λ r. ⌜ WrittenList (take n list) (now (out .entry)) r (now (out .exit)) ⌝ }
