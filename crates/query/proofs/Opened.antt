@@ -11,7 +11,6 @@ use native.Mathlib.Numerals.{add-one}
 use borrow.Author.Tests.{le-ltb, lt-ltb}
 use lib.ListN.{length}
 use Rattle.format.specs.Seq.{numbersFrom, total, upTo}
-use Rattle.format.specs.Page.{numberAt}
 use Rattle.format.specs.Image.{keyCount, nextT, outLinkCount, pageB, pageCount, pageNumber, pageRoots, pageT, rootCount}
 use Rattle.format.specs.Question.{outLinksDue}
 use Rattle.format.proofs.Lists.{numbers-split, total-append}
@@ -71,19 +70,17 @@ module _ {img : List ℕ} (r : Ready img) (b : ℕ) (lo : 1 ≤ b) (hi : b ≤ 8
   next-B i h = head-B r b (i + 1) ∙ ap (pageB img b) (add-one i) ∙ checked r .page b (suc i) lo hi (omega arith) .counters
 
   -- after the last page's stands the root count of the band below
-  pub next-B-roots : (i : ℕ) → i < pageCount img b → pageCount img b ≤ i + 1 → b < 8 → numberAt img (10 + 4 * b) ≡ pageB img b i + outLinkCount img b i
-  unfolding outLinksDue rootCount
+  pub next-B-roots : (i : ℕ) → i < pageCount img b → pageCount img b ≤ i + 1 → b < 8 → rootCount img (b + 1) ≡ pageB img b i + outLinkCount img b i
+  unfolding outLinksDue
   next-B-roots i h k l =
-      let e : 10 + 4 * b ≡ 6 + 4 * (b + 1) = omega arith in
-      ap (numberAt img) e
-      ∙ ap (λ (t : Bool). cond t (numberAt img (6 + 4 * (b + 1))) (keyCount img)) (sym (lt-ltb b 8 l))
+      ap (λ (t : Bool). cond t (rootCount img (b + 1)) (keyCount img)) (sym (lt-ltb b 8 l))
       ∙ sym (links-all i (omega arith))
 
   -- or the key count
-  pub next-B-keys : (i : ℕ) → i < pageCount img b → pageCount img b ≤ i + 1 → 8 ≤ b → numberAt img 6 ≡ pageB img b i + outLinkCount img b i
-  unfolding outLinksDue keyCount
+  pub next-B-keys : (i : ℕ) → i < pageCount img b → pageCount img b ≤ i + 1 → 8 ≤ b → keyCount img ≡ pageB img b i + outLinkCount img b i
+  unfolding outLinksDue
   next-B-keys i h k l =
-      ap (λ (t : Bool). cond t (rootCount img (b + 1)) (numberAt img 6)) (sym (le-ltb b 8 l))
+      ap (λ (t : Bool). cond t (rootCount img (b + 1)) (keyCount img)) (sym (le-ltb b 8 l))
       ∙ sym (links-all i (omega arith))
 
 -- the last page whose B is at or below an out-link's number has that out-link

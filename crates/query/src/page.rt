@@ -1,7 +1,7 @@
 // Bands and pages of an accepted image, read from its bytes.
 ghost use mathlib.Core.Path.{_≡_};
-ghost use Prim.Native.Nat.{_+_, _-_, _*_, _≤_, _<_};
-ghost use lib.ListN.{length, getD};
+ghost use Prim.Native.Nat.{_+_, _-_, _≤_, _<_};
+ghost use lib.ListN.{getD};
 ghost use Rattle.format.specs.Image.{pageB, pageNumber, pageCount, rootCount, nextT, outLinkCount};
 ghost use Rattle.format.specs.Question.{outLinksDue};
 ghost use Rattle.query.specs.Page.{Ready, BandRead, HeadRead, PageRead, LastPage, headAt};
@@ -51,8 +51,8 @@ pub fn band_at(image: &[u8], number: usize, first: usize) -> Band
     Band {
         number,
         first,
-        pages: checker::header::number(image, 4 + 4 * number),
-        roots: checker::header::number(image, 6 + 4 * number),
+        pages: checker::header::page_count(image, number),
+        roots: checker::header::root_count(image, number),
     }
 }
 
@@ -102,9 +102,9 @@ fn next_b(image: &[u8], band: Band, index: usize) -> usize
         return head_at(image, band, 2, index + 1);
     }
     if band.number < 8 {
-        return checker::header::number(image, 10 + 4 * band.number);
+        return checker::header::root_count(image, band.number + 1);
     }
-    checker::header::number(image, 6)
+    checker::header::key_count(image)
 }
 
 // The head of page `index` of the band.

@@ -234,7 +234,7 @@ pub fn list_members(image: &[u8], rectangle: Rectangle, keys: &mut [u32]) -> usi
     requires { ⌜ Accepted (now image) ⌝ }
     ensures { λ r. ⌜ Listed (memberKeys (now (image .entry)) rectangle) (now (keys .entry)) 0 (now (keys .exit)) r ⌝ }
 {
-    if checker::header::number(image, 6) == 0 {
+    if checker::header::key_count(image) == 0 {
         return 0;
     }
     let mut state = [0usize; 64];
@@ -259,7 +259,7 @@ pub fn count_members(image: &[u8], rectangle: Rectangle) -> usize
     ensures { λ r. ⌜ (r ≡ length (memberKeys (now (image .entry)) rectangle)) × (r ≤ 4096) ⌝ }
 {
     match place_of(rectangle, 16, whole()) {
-        Place::Inside => checker::header::number(image, 6),
+        Place::Inside => checker::header::key_count(image),
         _ => {
             let mut scratch = [0u32; 1];
             list_members(image, rectangle, &mut scratch)

@@ -18,19 +18,19 @@ abbrev μ-loop : tie.MeasureT-loop
 loop-holds : tie.Need-loop-holds Inv-loop μ-loop
 loop-holds c = let p = c .before .before .pre in ranked-start (p .0) _ _ (p .1) (ap (λ x. x .0) (c .cross .ensures))
 
-number-requires : tie.Need-number-requires Inv-loop μ-loop
-number-requires c κs = let s = c .before .loop .inv in omega (arith, s .to, header-long (s .ready))
+page-count-requires : tie.Need-page-count-requires Inv-loop μ-loop
+page-count-requires c κs = let s = c .before .loop .inv in (header-long (s .ready), s .to)
 
 sub-first : tie.Need-sub-first Inv-loop μ-loop
 unfolding pageCount
-sub-first c = ranked-first (c .before .before .loop .inv) (c .before .loop-test .taken) (c .number .ensures .0) .0
+sub-first c = ranked-first (c .before .before .loop .inv) (c .before .loop-test .taken) (c .page-count .ensures .0) .0
 
 band-at-requires : tie.Need-band-at-requires Inv-loop μ-loop
 unfolding pageCount
 band-at-requires c κs =
     let s = c .before .before .loop .inv in
     let h = c .before .loop-test .taken in
-    (s .ready, h, s .to, ranked-first s h (c .number .ensures .0) .1)
+    (s .ready, h, s .to, ranked-first s h (c .page-count .ensures .0) .1)
 
 head-above-requires : tie.Need-head-above-requires Inv-loop μ-loop
 head-above-requires c κs =
@@ -64,7 +64,7 @@ unfolding pageCount
 loop-again c =
     let p = c .before .before .before in
     let l = p .before .before .before in
-    rw (p .before .before .number .ensures .0) (ranked-next (l .before .loop .inv) (l .loop-test .taken) (p .head-above .ensures .1 ∙ p .before .band-at .ensures .1) (c .before .before .climb .ensures))
+    rw (p .before .before .page-count .ensures .0) (ranked-next (l .before .loop .inv) (l .loop-test .taken) (p .head-above .ensures .1 ∙ p .before .band-at .ensures .1) (c .before .before .climb .ensures))
 
 pub key-at-spec : {M : Type 1} → statement M
 key-at-spec =
@@ -74,9 +74,7 @@ key-at-spec =
     μ-loop
     (λ c κs. search needs)
     loop-holds
-    (λ c. omega (arith, c .before .loop .inv .to))
-    (λ c. omega (arith, c .before .loop .inv .to))
-    number-requires
+    page-count-requires
     sub-first
     band-at-requires
     head-above-requires

@@ -5,7 +5,6 @@ use mathlib.Core.Path.{_≡_, sym, subst}
 use Prim.Native.Nat.{ℕ, _<_}
 use native.Mathlib.Omega.{arith}
 use borrow.Author.Needs.{needs}
-use borrow.Author.Tests.{leb-false}
 use Rattle.query.specs.Cell.{Spots, endIn, rootIn, rootPrefix}
 use Rattle.query.specs.Subtrie.{SubtrieRead}
 use Rattle.query.proofs.spot.next_subtrie.Statement.{statement}

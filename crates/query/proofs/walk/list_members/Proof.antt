@@ -3,7 +3,6 @@ use mathlib.Core.Path.{sym, ap, _∙_}
 use native.Mathlib.Omega.{arith}
 use borrow.Author.Needs.{needs}
 use lib.ListN.{length}
-use Rattle.format.specs.Image.{keyCount}
 use Rattle.query.proofs.Kept.{no-spots}
 use Rattle.query.proofs.Places.{listed-none}
 use Rattle.query.proofs.Steps.{listed-same}
@@ -11,36 +10,33 @@ use Rattle.query.proofs.Whole.{image-long, ready-of, no-members, member
 use Rattle.query.proofs.walk.list_members.Statement.{statement}
 use Rattle.query.proofs.walk.list_members.Tie as tie
 
-number-requires : tie.Need-number-requires
-number-requires c κs = omega (arith, image-long (c .before .before .pre))
+key-count-requires : tie.Need-key-count-requires
+key-count-requires c κs = image-long (c .before .before .pre)
 
 returns : tie.Need-returns
-unfolding keyCount
-returns c = let s = c .before .before .before .before in listed-none (no-members (s .pre) _ (sym (c .before .number .ensures .0) ∙ c .if1 .taken))
+returns c = let s = c .before .before .before .before in listed-none (no-members (s .pre) _ (sym (c .before .key-count .ensures .0) ∙ c .if1 .taken))
 
 place-of-requires : tie.Need-place-of-requires
 place-of-requires c κs = (omega arith, c .whole .ensures .1, rw (c .whole .ensures .0) (omega arith))
 
 open-inside-requires : tie.Need-open-inside-requires
-unfolding keyCount
 open-inside-requires c κs =
     let m = c .before .before .before .before in
     let n = m .before .before .before in
     let s = n .before .before .before in
     let p = whole-covers (s .args .rectangle) (m .place-of .ensures) (c .before .before .enum-told .given .1) (m .before .whole .ensures .0) in (
-      opening-start (ready-of (s .pre) (λ z. m .before .before .if1 .left (n .number .ensures .0 ∙ z))),
+      opening-start (ready-of (s .pre) (λ z. m .before .before .if1 .left (n .key-count .ensures .0 ∙ z))),
       no-spots (s .args .image .now),
       omega (arith, ap length (members-all (s .pre) (s .args .rectangle) p), members-few (s .pre) (s .args .rectangle)),
     )
 
 open-band-requires : tie.Need-open-band-requires
-unfolding keyCount
 open-band-requires c κs =
     let m = c .before .before .before .before in
     let n = m .before .before .before in
     let s = n .before .before .before in
     let e = c .whole2 .ensures .0 in (
-      rw e (opening-start (ready-of (s .pre) (λ z. m .before .before .if1 .left (n .number .ensures .0 ∙ z)))),
+      rw e (opening-start (ready-of (s .pre) (λ z. m .before .before .if1 .left (n .key-count .ensures .0 ∙ z)))),
       omega arith,
       c .whole2 .ensures .1,
       no-spots (s .args .image .now),
@@ -63,7 +59,7 @@ pub list-members-spec : {M : Type 1} → statement M
 list-members-spec =
     tie.close
     (tie.spec
-    number-requires
+    key-count-requires
     returns
     (λ c κs. search needs)
     place-of-requires
