@@ -1,14 +1,13 @@
 -- The levels of a subtrie as sets: what is read under a level's set is the next level's.
 -- Assumes nothing.
 use mathlib.Core.Bool.{Bool, true, false}
-use mathlib.Core.List.{List, [], _∷_, flatMap, List·Memᴰ, Memᴰ·cast}
-use mathlib.Core.Path.{_≡_, refl, sym, ap, ap₂, _∙_}
-use Prim.Native.Nat.{ℕ, zero, suc, _+_, _-_, _*_, _/_, _%_, _^_, _≤_, _<_}
-use native.Mathlib.Nat.{add-zero, div-one, zero-div}
+use mathlib.Core.List.{List, List·Memᴰ, Memᴰ·cast}
+use mathlib.Core.Path.{_≡_, refl, sym, ap, _∙_}
+use Prim.Native.Nat.{ℕ, zero, suc, _+_, _-_, _*_, _/_, _≤_, _<_}
+use native.Mathlib.Nat.{add-zero}
 use native.Mathlib.Omega.{arith}
 use lib.ListN.{getD}
-use Rattle.format.specs.Seq.{All, isIn, rankIn}
-use Rattle.format.specs.Page.{Byte, pairsOf}
+use Rattle.format.specs.Seq.{isIn, rankIn}
 use Rattle.format.specs.Image.{pagePairs}
 use Rattle.format.proofs.Levels.{prefixesAt, depth, prefixes-asc}
 use Rattle.format.proofs.Walk.{reached-place}
@@ -20,19 +19,6 @@ use Rattle.query.proofs.Ranks.{Tested, member, stranger, tested, rank-n
 use Rattle.query.proofs.Sets.{set-bit}
 use Rattle.query.specs.Cell.{Cell}
 use Rattle.query.proofs.Cell.{cell-place, node-is, parent-mem}
-
--- the node at a place of a page's bytes
-pub pair-at : (bs : List ℕ) (j : ℕ) → All Byte bs → getD (flatMap pairsOf bs) j 0 ≡ getD bs (j / 4) 0 / 4 ^ (3 - j % 4) % 4
-unfolding flatMap pairsOf
-pair-at [] j a = ap (_% 4) (sym (zero-div (4 ^ (3 - j % 4))))
-pair-at (x ∷ bs) zero a = omega (arith, a .0)
-pair-at (x ∷ bs) (suc zero) a = refl
-pair-at (x ∷ bs) (suc (suc zero)) a = refl
-pair-at (x ∷ bs) (suc (suc (suc zero))) a = ap (_% 4) (sym (div-one x))
-pair-at (x ∷ bs) (suc (suc (suc (suc j)))) a =
-    let q : suc (suc (suc (suc j))) / 4 ≡ suc (j / 4) = omega arith in
-    let m : suc (suc (suc (suc j))) % 4 ≡ j % 4 = omega arith in
-    pair-at bs j (a .1) ∙ sym (ap₂ (λ (u v : ℕ). getD (x ∷ bs) u 0 / 4 ^ (3 - v) % 4) q m)
 
 module _ (img : List ℕ) (r : Ready img) (b : ℕ) (lo : 1 ≤ b) (hi : b ≤ 8) (i : ℕ) (page : List ℕ) (read : (j : ℕ) → j < 240 → nodeOf page j ≡ getD (pagePairs img b i) j 0) where
   module _ (l w base p : ℕ) (lv : l < 4) (c : Cell img b i l w base p) where

@@ -17,6 +17,7 @@ use Rattle.format.proofs.Read.{page-within}
 use Rattle.format.proofs.Levels.{depth, prefixesAt, prefixes-asc}
 use Rattle.format.proofs.Walk.{reached-index, reached-place, reached-valid}
 use Rattle.reader.specs.Page.{nodeOf}
+use Rattle.reader.proofs.Nodes.{pair-at}
 use Rattle.nodes.specs.Words.{wordsOf}
 use Rattle.query.specs.declared.page.Page.{Page}
 use Rattle.query.specs.declared.spot.Spot.{Spot}
@@ -28,7 +29,7 @@ use Rattle.format.proofs.Members.{rank-le}
 use Rattle.query.proofs.Ranked.{links-count, links-few}
 use Rattle.query.proofs.Subtries.{link-is, root-way, cell₀, cell₁, cell₂, cell₃}
 use Rattle.query.proofs.Next.{Gap, gap-first, gap-next, gap-rank, cell-shift, rank-run}
-use Rattle.query.proofs.Levels.{level-next, level-room, pair-at, read-all}
+use Rattle.query.proofs.Levels.{level-next, level-room, read-all}
 
 -- the page's part of the image
 pub part-is : (img : List ℕ) (at : ℕ) → take (at + 64 - at) (drop at img) ≡ take 64 (drop at img)

@@ -6,16 +6,15 @@ ghost use lib.ListN.{length};
 ghost use Rattle.reader.specs.Page.{nodeOf};
 ghost use Rattle.query.specs.Subtrie.{bitsAfter, pathSet, placeAfter, startIn, StartsRight};
 use crate::window::top;
-use crate::window::window;
 use nodes::on_bits_before;
-use reader::read_node;
+use reader::read_nodes;
 
 // Node `at` of a page.
 pub fn node(page: &[u8], at: usize) -> u32
     requires { ⌜ (length (now page) ≡ 64) × (at < 240) ⌝ }
     ensures { λ r. ⌜ (r ≡ nodeOf (now (page .entry)) at) × (r < 4) ⌝ }
 {
-    read_node(page, at) as u32
+    top(read_nodes(page, at, 1))
 }
 
 // The on bits of a node.
@@ -49,13 +48,13 @@ fn bit(set: u32, n: usize) -> u32
     (set >> n) % 2
 }
 
-// The next level of a subtrie, read from a window without branches. Under each on bit of `set`, `width` bits with the first the highest, stands the
+// The next level of a subtrie, read from a word of nodes without branches. Under each on bit of `set`, `width` bits with the first the highest, stands the
 // next node from `place` on: the nodes' bits in order, 00 under an off bit.
 pub fn next_level(page: &[u8], place: usize, set: u32, width: usize) -> Level
     requires { ⌜ (length (now page) ≡ 64) × (place < 240) × (1 ≤ width) × (width ≤ 8) × (placeAfter set width place width ≤ 240) ⌝ }
     ensures { λ r. ⌜ (r .bits ≡ bitsAfter (now (page .entry)) set width place width) × (r .bits < 65536) × (r .place ≡ placeAfter set width place width) ⌝ }
 {
-    let mut nodes = window(page, place);
+    let mut nodes = read_nodes(page, place, 8);
     let mut bits = 0u32;
     let mut at = place;
     let mut left = width;

@@ -1,9 +1,10 @@
 // A reader that holds a page and the node reached, and moves forward only. The functions over it are thin: the work is done by
-// `node_at` and `ahead`, which take a plain slice and numbers and are covered.
+// `nodes_at` and `ahead`, which take a plain slice and numbers and are covered.
 ghost use mathlib.Core.Path.{_≡_};
-ghost use Prim.Native.Nat.{_+_, _<_, _^_, _/_};
+ghost use Prim.Native.Nat.{_+_, _≤_, _<_, _^_, min};
 ghost use lib.ListN.{length};
-ghost use Rattle.reader.specs.Page.{nodeOf};
+ghost use Rattle.reader.specs.Page.{NodesIn};
+use nodes::word;
 
 // A page, and the node reached.
 pub struct Reader<'a> {
@@ -13,17 +14,47 @@ pub struct Reader<'a> {
 
 // ---- the covered core
 
-// Node `node` of a page: 2 for its first bit, 1 for its second, 3 for both.
-pub fn node_at(page: &[u8], node: usize) -> u8
-    requires { ⌜ 4 + node / 4 < length (now page) ⌝ }
-    ensures { λ r. ⌜ r ≡ nodeOf (now (page .entry)) node ⌝ }
+// The smaller number.
+fn least(a: usize, b: usize) -> usize
+    ensures { λ r. ⌜ r ≡ min a b ⌝ }
 {
-    let b = page[4 + node / 4];
-    (b >> (6 - 2 * (node % 4))) % 4
+    if a < b {
+        return a;
+    }
+    b
+}
+
+// A node in the highest bits of a word, from its byte.
+fn one_at(page: &[u8], node: usize) -> u64
+    requires { ⌜ (length (now page) ≡ 64) × (node < 240) ⌝ }
+    ensures { λ r. ⌜ NodesIn r (now (page .entry)) node 1 ⌝ }
+{
+    let b = page[4 + node / 4] as u64;
+    b << (56 + 2 * (node % 4))
+}
+
+// The nodes from `node` on in the highest bits of a word, from eight bytes: those from the node's byte on, or the last of the page.
+fn many_at(page: &[u8], node: usize) -> u64
+    requires { ⌜ (length (now page) ≡ 64) × (node < 240) ⌝ }
+    ensures { λ r. ⌜ NodesIn r (now (page .entry)) node 28 ⌝ }
+{
+    let byte = least(node / 4, 52);
+    word(page, 4 + byte) << (2 * (node - 4 * byte))
+}
+
+// The `n` nodes from `node` on, as far as the page has them, in the highest bits of a word; what is in the bits below is not said.
+fn nodes_at(page: &[u8], node: usize, n: usize) -> u64
+    requires { ⌜ (length (now page) ≡ 64) × (node < 240) × (n ≤ 28) ⌝ }
+    ensures { λ r. ⌜ NodesIn r (now (page .entry)) node n ⌝ }
+{
+    if n <= 1 {
+        return one_at(page, node);
+    }
+    many_at(page, node)
 }
 
 // The node `n` further.
-pub fn ahead(node: usize, n: usize) -> usize
+fn ahead(node: usize, n: usize) -> usize
     requires { ⌜ node + n < 2 ^ 64 ⌝ }
     ensures { λ r. ⌜ r ≡ node + n ⌝ }
 {
@@ -39,12 +70,12 @@ pub fn new<'a>(page: &'a [u8]) -> Reader<'a>
     Reader { page, node: 0 }
 }
 
-// The node reached.
-pub fn node<'a>(r: Reader<'a>) -> u8
-    requires { ⌜ 4 + (r .node) / 4 < length (now (r .page)) ⌝ }
-    ensures { λ v. ⌜ v ≡ nodeOf (now (r .entry .page)) (r .entry .node) ⌝ }
+// The `n` nodes from the node reached on, in the highest bits of a word.
+pub fn next_nodes<'a>(r: Reader<'a>, n: usize) -> u64
+    requires { ⌜ (length (now (r .page)) ≡ 64) × (r .node < 240) × (n ≤ 28) ⌝ }
+    ensures { λ v. ⌜ NodesIn v (now (r .entry .page)) (r .entry .node) n ⌝ }
 {
-    node_at(r.page, r.node)
+    nodes_at(r.page, r.node, n)
 }
 
 // The reader `n` nodes further.
@@ -58,12 +89,12 @@ pub fn forward<'a>(r: Reader<'a>, n: usize) -> Reader<'a>
     }
 }
 
-// ---- what callers use: a plain slice and a number
+// ---- what callers use: a plain slice and numbers
 
-// Node `n` of a page.
-pub fn read_node(page: &[u8], n: usize) -> u8
-    requires { ⌜ 4 + n / 4 < length (now page) ⌝ }
-    ensures { λ v. ⌜ v ≡ nodeOf (now (page .entry)) n ⌝ }
+// The `n` nodes of a page from `node` on, as far as it has them, in the highest bits of a word.
+pub fn read_nodes(page: &[u8], node: usize, n: usize) -> u64
+    requires { ⌜ (length (now page) ≡ 64) × (node < 240) × (n ≤ 28) ⌝ }
+    ensures { λ v. ⌜ NodesIn v (now (page .entry)) node n ⌝ }
 {
-    node(forward(new(page), n))
+    next_nodes(forward(new(page), node), n)
 }

@@ -1,16 +1,16 @@
--- `query::subtrie::next_level` meets its contract. The loop's invariant: what the bits passed have given, and the window starts at the next node.
+-- `query::subtrie::next_level` meets its contract. The loop's invariant: what the bits passed have given, and the word starts with the next node.
 -- Assumes nothing.
 use mathlib.Core.Path.{sym, _∙_}
 use native.Mathlib.Omega.{arith}
 use borrow.Author.Needs.{needs}
-use Rattle.query.specs.Window.{Window}
+use Rattle.reader.specs.Page.{NodesIn}
+use Rattle.reader.proofs.Nodes.{nodes-less, nodes-top, nodes-next}
 use Rattle.query.proofs.Reading.{Reading, bit-times, reading-start, reading-small, reading-next, reading-place, reading-room, reading-end}
-use Rattle.query.proofs.Windows.{window-less, window-top, window-next}
 use Rattle.query.proofs.subtrie.next_level.Statement.{statement}
 use Rattle.query.proofs.subtrie.next_level.Tie as tie
 
 abbrev Inv-loop : tie.InvT-loop
-Inv-loop page place set width nodes₀ bits₀ at₀ left₀ nodes bits at left = (Reading page set width place bits at left) × (Window page at left nodes)
+Inv-loop page place set width nodes₀ bits₀ at₀ left₀ nodes bits at left = (Reading page set width place bits at left) × (NodesIn nodes page at left)
 
 abbrev μ-loop : tie.MeasureT-loop
 μ-loop page place set width nodes₀ bits₀ at₀ left₀ nodes bits at left = left
@@ -18,7 +18,7 @@ abbrev μ-loop : tie.MeasureT-loop
 loop-holds : tie.Need-loop-holds Inv-loop μ-loop
 loop-holds c =
     let p = c .before .before .pre in
-    (reading-start (p .0) (p .3) (p .4), window-less (c .window .ensures) (omega arith))
+    (reading-start (p .0) (p .3) (p .4), nodes-less (c .read-nodes .ensures) (omega arith))
 
 -- on * node
 mul-bits-2 : tie.Need-mul-bits-2 Inv-loop μ-loop
@@ -40,8 +40,8 @@ loop-again c =
     let more = c .before .before .loop-test .taken in
     let b = c .before .bit .ensures in
     let t = c .top .ensures in (
-      reading-next (s .0) more _ _ (b .0) (t .1) (λ on. t .0 ∙ window-top (s .1) more (reading-room (s .0) more (sym (b .0) ∙ on))),
-      window-next (s .1) (omega (arith, s .0 .to, s .0 .wide)) _ (b .1),
+      reading-next (s .0) more _ _ (b .0) (t .1) (λ on. t .0 ∙ nodes-top (s .1) more (reading-room (s .0) more (sym (b .0) ∙ on))),
+      nodes-next (s .1) (omega (arith, s .0 .to, s .0 .wide)) _ (b .1),
     )
 
 pub next-level-spec : {M : Type 1} → statement M

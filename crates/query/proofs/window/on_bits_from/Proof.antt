@@ -26,17 +26,17 @@ on-bits-from-spec =
     Inv-loop
     μ-loop
     loop-holds
-    (λ c κs. (c .before .before .before .pre .0, c .before .loop .inv .inside))
+    (λ c κs. (c .before .before .before .pre .0, c .before .loop .inv .inside, omega arith))
     (λ c κs. search needs)
     (λ c. omega (arith, counting-small (c .before .before .before .loop .inv), c .ones-of .ensures .1))
     (λ c. omega (arith, c .before .before .before .loop .inv .inside))
     (λ c. omega arith)
     (λ c. omega arith)
-    (λ c. counting-next (c .before .before .before .loop .inv) (c .before .window .ensures) (c .before .before .loop-test .taken) (c .ones-of .ensures .0))
-    (λ c κs. (c .before .before .before .pre .0, c .before .loop .inv .inside))
+    (λ c. counting-next (c .before .before .before .loop .inv) (c .before .read-nodes .ensures) (c .before .before .loop-test .taken) (c .ones-of .ensures .0))
+    (λ c κs. (c .before .before .before .pre .0, c .before .loop .inv .inside, omega arith))
     (λ c. omega (arith, c .before .loop-test .left))
     (λ c. omega (arith, c .before .loop-test .left))
     (λ c. omega (arith, c .before .loop-test .left))
     (λ c κs. search needs)
     (λ c. omega (arith, counting-small (c .before .before .before .loop .inv), c .ones-of2 .ensures .1))
-    (λ c. counting-end (c .before .before .before .loop .inv) (c .before .window2 .ensures) (c .before .before .loop-test .left) (c .ones-of2 .ensures .0)))
+    (λ c. counting-end (c .before .before .before .loop .inv) (c .before .read-nodes2 .ensures) (c .before .before .loop-test .left) (c .ones-of2 .ensures .0)))

@@ -1,0 +1,2 @@
+-- Words of a page's nodes.
+pub mod Nodes
