@@ -24,8 +24,8 @@ use Rattle.query.specs.declared.Presence.{Presence}
 use Rattle.query.specs.declared.Presence.the-variants.{Listed, Absent, Refused}
 use Rattle.query.specs.Way.{FoundRight}
 use Rattle.query.specs.Outcomes.{lookupOutcome, NoPages}
-use Rattle.query.specs.Walk.{Listed as QListed}
-use Rattle.query.proofs.Places.{written-all}
+use Rattle.walk.specs.Walk.{Listed as QListed}
+use Rattle.walk.proofs.Places.{written-all}
 
 -- ---- the checker's answer
 

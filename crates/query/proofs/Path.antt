@@ -2,9 +2,8 @@
 -- Assumes nothing.
 use mathlib.Core.Path.{_≡_, refl, sym, ap, ap₂, subst, _∙_}
 use mathlib.Core.List.{List, [], _∷_, _++_, map, map-append, append-nil}
-use Prim.Native.Nat.{ℕ, zero, suc, _+_, _-_, _*_, _/_, _^_, _≤_, _<_}
+use Prim.Native.Nat.{ℕ, suc, _+_, _-_, _*_, _/_, _^_, _≤_, _<_}
 use native.Mathlib.Nat.{div-one}
-use native.Mathlib.Numerals.{add-one}
 use native.Mathlib.Omega.{arith}
 use lib.ListN.{length, getD, set, replicate, length-map}
 use Rattle.format.specs.Seq.{numbersFrom, total}
@@ -12,17 +11,18 @@ use Rattle.format.specs.Image.{bands, pageCount, pageNumber, pageRoots, pageT, 
 use Rattle.format.specs.Answer.{listed, lookupAnswer, pageOf, rootOf}
 use Rattle.format.proofs.Lists.{numbers-split, length-numbers}
 use Rattle.format.proofs.Accepted.{facts}
-use Rattle.format.proofs.Back.{pagesBefore-suc}
 use Rattle.format.proofs.Lookup.{place-listed}
 use Rattle.format.proofs.Levels.{prefixesAt, prefixes-keys}
 use Rattle.format.proofs.Walk.{page-is, root-is, roots-count}
-use Rattle.query.specs.declared.page.Band.{Band}
-use Rattle.query.specs.declared.page.Page.{Page}
+use Rattle.pages.specs.declared.Band.{Band}
+use Rattle.pages.specs.declared.Page.{Page}
 use Rattle.query.specs.declared.way.Way.{Way}
 use Rattle.format.specs.declared.OutLink.{OutLink}
-use Rattle.query.specs.Page.{Ready, BandRead, PageRead}
-use Rattle.query.specs.Way.{AtPrefix, WayRight}
-use Rattle.query.proofs.Pages.{bytes, checked, few-pages}
+use Rattle.pages.specs.Page.{Ready, BandRead, PageRead}
+use Rattle.pages.specs.Prefix.{AtPrefix}
+use Rattle.query.specs.Way.{WayRight}
+use Rattle.pages.proofs.Pages.{bytes, checked}
+use Rattle.pages.proofs.Counts.{next-first, pages-few}
 
 -- ---- eight places filled one after the other
 
@@ -45,23 +45,6 @@ filled-next f k v h e =
     ∙ fill-next xs (8 - (k + 1)) v
     ∙ ap (λ (w : ℕ). (xs ++ w ∷ []) ++ replicate (8 - (k + 1)) 0) e
     ∙ ap (_++ replicate (8 - (k + 1)) 0) (sym more)
-
--- ---- page numbers
-
--- the first page of the next band
-pub next-first : (img : List ℕ) (b : ℕ) → 1 ≤ b → pageNumber img b 0 + pageCount img b ≡ pageNumber img (b + 1) 0
-unfolding pageNumber
-next-first img b h = omega (arith, pagesBefore-suc img b h, ap (pagesBefore img) (add-one b))
-
-pages-few : {img : List ℕ} (r : Ready img) (s n : ℕ) → total (map (pageCount img) (numbersFrom s n)) ≤ 65536 * n
-unfolding numbersFrom total
-pages-few r s zero = omega arith
-pages-few r s (suc n) = omega (arith, few-pages r s, pages-few r (suc s) n)
-
--- a page number is below 2 ^ 20
-pub page-number-small : {img : List ℕ} (r : Ready img) (b i : ℕ) → b ≤ 8 → i < pageCount img b → pageNumber img b i < 1048576
-unfolding pageNumber pagesBefore
-page-number-small r b i h k = omega (arith, pages-few r 1 (b - 1), few-pages r b)
 
 -- ---- the way
 

@@ -5,7 +5,7 @@ use mathlib.Core.List.{List}
 use Prim.Native.Nat.{ℕ, zero, suc, _+_, _/_, _%_}
 use Rattle.format.proofs.Descent.{bit}
 use Rattle.nodes.specs.Words.{nodeIn, onesBefore}
-use Rattle.query.specs.Page.{childIn}
+use Rattle.pages.specs.Page.{childIn}
 
 pub bit-first : (n s : ℕ) → s ≡ 0 → n / 2 ≡ bit s n
 bit-first n s e = rw e

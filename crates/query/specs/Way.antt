@@ -2,19 +2,14 @@
 -- Assumes nothing.
 use mathlib.Core.Path.{_≡_}
 use mathlib.Core.List.{List}
-use Prim.Native.Nat.{ℕ, _-_, _*_, _/_, _^_, _<_}
-use lib.ListN.{length, getD, replicate}
+use Prim.Native.Nat.{ℕ, _-_, _*_, _/_, _^_}
+use lib.ListN.{replicate}
 use Rattle.format.specs.Answer.{absent, listed, lookupAnswer}
-use Rattle.format.proofs.Levels.{prefixesAt}
+use Rattle.pages.specs.Prefix.{AtPrefix}
 use Rattle.query.specs.declared.Presence.{Presence}
 use Rattle.query.specs.declared.Presence.the-variants.{Listed, Absent, Refused}
 use Rattle.query.specs.declared.way.Way.{Way}
 use Rattle.query.specs.declared.way.Way.the-variants.{Out, Off}
-
--- prefix x has the number n among those of d bits
-pub record AtPrefix (img : List ℕ) (d n x : ℕ) : Type 0 where
-  pub within : n < length (prefixesAt img d)
-  pub prefix : getD (prefixesAt img d) n 0 ≡ x
 
 -- the way of a key through band b ends at the out-link of its prefix, or at an off bit
 abbrev pub WayRight : List ℕ → ℕ → ℕ → Way → Type 0

@@ -1,15 +1,5 @@
 // Lookup, count, listing and finding by rank. Each job asks 1 to 13 by itself first.
-mod block;
-mod climb;
-mod page;
-mod select;
-mod skip;
-mod spot;
-mod state;
-mod subtrie;
-mod walk;
 mod way;
-mod window;
 
 ghost use mathlib.Core.Path.{_≡_};
 ghost use lib.Dec.{ltb};

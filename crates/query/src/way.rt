@@ -3,20 +3,21 @@ ghost use mathlib.Core.Path.{_≡_};
 ghost use Prim.Native.Nat.{_+_, _-_, _*_, _/_, _^_, _≤_, _<_};
 ghost use Rattle.format.proofs.Descent.{bit};
 ghost use Rattle.format.proofs.Lookup.{keyBit};
-ghost use Rattle.query.specs.Page.{Ready, HeadRead, childIn};
-ghost use Rattle.query.specs.Way.{AtPrefix, WayRight, FoundRight};
+ghost use Rattle.pages.specs.Page.{Ready, HeadRead, childIn};
+ghost use Rattle.pages.specs.Prefix.{AtPrefix};
+ghost use Rattle.query.specs.Way.{WayRight, FoundRight};
 use crate::Found;
 use crate::Presence;
-use crate::page::PageHead;
-use crate::page::band_at;
-use crate::page::head_of_root;
-use crate::page::node_count;
 use format::OutLink;
 use format::Root;
 use format::cross;
 use nodes::gather;
 use nodes::node_at;
 use nodes::on_bits_before;
+use pages::PageHead;
+use pages::band_at;
+use pages::head_of_root;
+use pages::node_count;
 
 // Where a key goes on from a root: to an out-link of the band, or nowhere.
 pub enum Way {

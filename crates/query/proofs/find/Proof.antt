@@ -5,7 +5,7 @@ use Rattle.checker.proofs.After.{returned-count, accepted-image}
 use Rattle.nodes.proofs.Numbers.{bytes-of}
 use Rattle.query.specs.Outcomes.{findOutcome}
 use Rattle.query.proofs.Jobs.{answer-refused, answer-accepted, find-refused, find-past, find-done}
-use Rattle.query.proofs.Whole.{ready-of}
+use Rattle.walk.proofs.Whole.{ready-of}
 use Rattle.query.proofs.find.Statement.{statement}
 use Rattle.query.proofs.find.Tie as tie
 

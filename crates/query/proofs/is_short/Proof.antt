@@ -6,7 +6,7 @@ use borrow.Author.Tests.{le-ltb}
 use lib.Dec.{ltb}
 use lib.ListN.{length}
 use Rattle.format.specs.Answer.{memberKeys}
-use Rattle.query.proofs.Whole.{members-at-most}
+use Rattle.walk.proofs.Whole.{members-at-most}
 use Rattle.query.proofs.is_short.Statement.{statement}
 use Rattle.query.proofs.is_short.Tie as tie
 

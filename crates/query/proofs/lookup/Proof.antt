@@ -4,7 +4,7 @@ use borrow.Author.Needs.{needs}
 use Rattle.checker.proofs.After.{returned-count, accepted-image}
 use Rattle.nodes.proofs.Numbers.{bytes-of}
 use Rattle.query.proofs.Jobs.{answer-refused, answer-accepted, lookup-no, lookup-none, lookup-done}
-use Rattle.query.proofs.Whole.{ready-of}
+use Rattle.walk.proofs.Whole.{ready-of}
 use Rattle.query.proofs.lookup.Statement.{statement}
 use Rattle.query.proofs.lookup.Tie as tie
 

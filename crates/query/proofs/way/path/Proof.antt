@@ -5,9 +5,10 @@ use native.Mathlib.Omega.{arith}
 use borrow.Author.Needs.{needs}
 use Rattle.format.specs.Image.{rootCount}
 use Rattle.query.specs.Way.{WayRight}
-use Rattle.query.proofs.Pages.{few-pages}
-use Rattle.query.proofs.Heads.{opened-read}
-use Rattle.query.proofs.Path.{Path, path-start, path-root, path-at, path-next, way-out, path-end, path-rank, first-small, page-number-small}
+use Rattle.pages.proofs.Pages.{few-pages}
+use Rattle.pages.proofs.Heads.{opened-read}
+use Rattle.pages.proofs.Counts.{page-number-small}
+use Rattle.query.proofs.Path.{Path, path-start, path-root, path-at, path-next, way-out, path-end, path-rank, first-small}
 use Rattle.query.proofs.way.path.Statement.{statement}
 use Rattle.query.proofs.way.path.Tie as tie
 

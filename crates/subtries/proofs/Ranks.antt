@@ -1,0 +1,98 @@
+-- Ranks in an ascending list: of a member, of the next number, of a number just below a member.
+-- Assumes nothing.
+use mathlib.Core.Bool.{Bool, true, false}
+use mathlib.Core.List.{List, [], _∷_, List·Memᴰ, List·Memᴰ·head, List·Memᴰ·tail, List·Memᴰ·not-nil, List·Memᴰ·cases-cons}
+use mathlib.Core.Logic.{⊎-elim}
+use mathlib.Core.Path.{_≡_, refl, sym, ap, _∙_}
+use Prim.Native.Nat.{ℕ, suc, _+_, _≤_, _<_}
+use native.Mathlib.Decide.{decLt, ℕ-discrete}
+use native.Mathlib.Omega.{arith}
+use borrow.Author.Tests.{lt-ltb, le-ltb, eq-eqb, ne-eqb}
+use lib.Dec.{ltb}
+use lib.ListN.{length, getD}
+use Rattle.format.specs.Seq.{consIf, isIn, rankIn, select}
+use Rattle.format.proofs.Trie.{Asc}
+use Rattle.format.proofs.Members.{asc-tail, above-mem}
+use Rattle.format.proofs.Descent.{isIn-not, rank-at}
+use Rattle.subtries.specs.Subtrie.{asBit}
+
+-- a member or not, with the test's answer
+pub data Tested (x : ℕ) (l : List ℕ) : Bool → Type 0 where
+  member : List·Memᴰ x l → Tested x l true
+  stranger : (List·Memᴰ x l → ⊥) → Tested x l false
+
+pub tested : (x : ℕ) (l : List ℕ) → Tested x l (isIn x l)
+unfolding isIn
+tested x [] = stranger (λ m. List·Memᴰ·not-nil m)
+tested x (y ∷ l) =
+    elim (ℕ-discrete x y) [
+      | yes e ↦ rw (eq-eqb x y e) (member (List·Memᴰ·head e))
+      | no e ↦ rw (ne-eqb x y e) (go (isIn x l) e (tested x l))
+    ]
+  where
+    go : (b : Bool) → (x ≡ y → ⊥) → Tested x l b → Tested x (y ∷ l) b
+    go true e (member m) = member (List·Memᴰ·tail m)
+    go false e (stranger f) = stranger (λ m. ⊎-elim (λ (d : x ≡ y). e d) (λ (t : List·Memᴰ x l). f t) (List·Memᴰ·cases-cons m))
+
+-- how many of a list are below z
+rank-cons : (e : ℕ) (l : List ℕ) (z : ℕ) → rankIn (e ∷ l) z ≡ asBit (ltb e z) + rankIn l z
+unfolding rankIn select
+rank-cons e l z = go (ltb e z)
+  where
+    go : (b : Bool) → length (consIf b e (select (λ y. ltb y z) l)) ≡ asBit b + length (select (λ y. ltb y z) l)
+    go true = unfold consIf asBit in omega arith
+    go false = unfold consIf asBit in omega arith
+
+-- the rank of the next number
+pub rank-next : (l : List ℕ) (z : ℕ) → Asc l → rankIn l (suc z) ≡ rankIn l z + asBit (isIn z l)
+unfolding isIn asBit
+rank-next [] z a = unfold rankIn select in refl
+rank-next (e ∷ l) z a =
+    let ih : rankIn l (suc z) ≡ rankIn l z + asBit (isIn z l) = rank-next l z (asc-tail e l a) in
+    rw (rank-cons e l (suc z), rank-cons e l z)
+    (elim (decLt e z) [
+      | yes h ↦ rw (lt-ltb e (suc z) (omega arith), lt-ltb e z h, ne-eqb z e (λ d. omega arith)) (omega arith)
+      | no h ↦ elim (ℕ-discrete z e) [
+        | yes d ↦ let none : isIn z l ≡ false = isIn-not z l (λ m. omega (arith, above-mem e z l a m)) in
+            let same : rankIn l (suc z) ≡ rankIn l z + asBit false = rw none at ih in
+            rw (lt-ltb e (suc z) (omega arith), le-ltb e z (omega arith), eq-eqb z e d) (omega (arith, same))
+        | no d ↦ rw (le-ltb e (suc z) (omega arith), le-ltb e z (omega arith), ne-eqb z e d) (omega arith)
+      ]
+    ])
+
+-- ranks agree where no member lies between
+pub rank-agree : (l : List ℕ) (z z′ : ℕ) → ((k : ℕ) → List·Memᴰ k l → ltb k z ≡ ltb k z′) → rankIn l z ≡ rankIn l z′
+rank-agree [] z z′ f = unfold rankIn select in refl
+rank-agree (e ∷ l) z z′ f =
+    rank-cons e l z ∙ ap (λ (b : Bool). asBit b + rankIn l z) (f e (List·Memᴰ·head refl)) ∙ ap (asBit (ltb e z′) +_) (rank-agree l z z′ (λ k m. f k (List·Memᴰ·tail m))) ∙ sym (rank-cons e l z′)
+
+-- the rank of a number below which the members before the nth end
+pub rank-first : (l : List ℕ) (n z : ℕ) → Asc l → n < length l → z ≤ getD l n 0 → ((k : ℕ) → List·Memᴰ k l → k < getD l n 0 → k < z) → rankIn l z ≡ n
+rank-first l n z a h le f =
+    rank-agree l z (getD l n 0) (λ k m. elim (decLt k (getD l n 0)) [
+      | yes b ↦ lt-ltb k z (f k m b) ∙ sym (lt-ltb k (getD l n 0) b)
+      | no b ↦ le-ltb k z (omega arith) ∙ sym (le-ltb k (getD l n 0) (omega arith))
+    ])
+    ∙ rank-at l n a h
+
+-- a member stands at its rank
+pub record AtRank (l : List ℕ) (y : ℕ) : Type 0 where
+  pub within : rankIn l y < length l
+  pub here : getD l (rankIn l y) 0 ≡ y
+
+record Index (l : List ℕ) (y : ℕ) : Type 0 where
+  n : ℕ
+  within : n < length l
+  here : getD l n 0 ≡ y
+
+index-of : (l : List ℕ) (y : ℕ) → List·Memᴰ y l → Index l y
+index-of [] y m = absurd (List·Memᴰ·not-nil m)
+index-of (e ∷ l) y m =
+    ⊎-elim (λ (d : y ≡ e). record { n = 0; within = omega arith; here = sym d })
+    (λ (t : List·Memᴰ y l). let r = index-of l y t in record { n = suc (r .n); within = omega (arith, r .within); here = r .here }) (List·Memᴰ·cases-cons m)
+
+pub at-rank : (l : List ℕ) (y : ℕ) → Asc l → List·Memᴰ y l → AtRank l y
+at-rank l y a m =
+    let i = index-of l y m in
+    let r : rankIn l y ≡ i .n = ap (rankIn l) (sym (i .here)) ∙ rank-at l (i .n) a (i .within) in
+    record { within = omega (arith, i .within); here = ap (λ (n : ℕ). getD l n 0) r ∙ i .here }

@@ -1,0 +1,3 @@
+pub mod OnBits
+pub mod Subtrie
+pub mod Spot
