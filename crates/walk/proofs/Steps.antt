@@ -36,8 +36,8 @@ pub keys-asc : {img : List ℕ} → Ready img → Asc (keysOf img)
 keys-asc {img} r = facts img (r .accepted) .keys .asc
 
 -- the keys from x * 2 ^ w on, below the next such number, are those that start with x
-pub in-cell : (w x k : ℕ) → x * 2 ^ w ≤ k → k < (x + 1) * 2 ^ w → k / 2 ^ w ≡ x
-in-cell w x k lo hi =
+pub in-block : (w x k : ℕ) → x * 2 ^ w ≤ k → k < (x + 1) * 2 ^ w → k / 2 ^ w ≡ x
+in-block w x k lo hi =
     let r : ℕ = k - x * 2 ^ w in
     let e : k ≡ x * 2 ^ w + r = omega arith in
     let small : r < 2 ^ w = omega (arith, add-mul x 1 (2 ^ w)) in
@@ -66,11 +66,11 @@ listed-same e l = rw e l
 module _ (img : List ℕ) (rectangle : Rectangle) (w x : ℕ) where
   -- cut
   pub members-cut : CellApart rectangle w x → membersBetween img (inside rectangle) (x * 2 ^ w) ((x + 1) * 2 ^ w) ≡ []
-  members-cut p = members-outside img (inside rectangle) (x * 2 ^ w) ((x + 1) * 2 ^ w) (λ k lo hi. apart-outside rectangle w x k p (in-cell w x k lo hi))
+  members-cut p = members-outside img (inside rectangle) (x * 2 ^ w) ((x + 1) * 2 ^ w) (λ k lo hi. apart-outside rectangle w x k p (in-block w x k lo hi))
 
   -- every key is inside
   pub members-every : Covers rectangle w x → membersBetween img (inside rectangle) (x * 2 ^ w) ((x + 1) * 2 ^ w) ≡ membersBetween img anyKey (x * 2 ^ w) ((x + 1) * 2 ^ w)
-  members-every p = members-agree img (inside rectangle) anyKey (x * 2 ^ w) ((x + 1) * 2 ^ w) (λ k lo hi. covers-inside rectangle w x k p (in-cell w x k lo hi))
+  members-every p = members-agree img (inside rectangle) anyKey (x * 2 ^ w) ((x + 1) * 2 ^ w) (λ k lo hi. covers-inside rectangle w x k p (in-block w x k lo hi))
 
 module _ {img : List ℕ} {b link x : ℕ} (o : Opening img b link x) where
   module _ (z : b ≡ 9) where
@@ -181,7 +181,7 @@ module _ {img : List ℕ} {b set link x v : ℕ} (s : Walking img b set link x v
       none-here f =
           members-none img f ((16 * x + v) * 2 ^ (36 - 4 * (b + 1))) ((16 * x + v + 1) * 2 ^ (36 - 4 * (b + 1)))
           (λ k m lo hi. let d : 32 - 4 * b ≡ 36 - 4 * (b + 1) = omega arith in
-          stranger-here (Memᴰ·cast (sym (ap (λ (n : ℕ). k / 2 ^ n) d ∙ in-cell (36 - 4 * (b + 1)) (16 * x + v) k lo hi))
+          stranger-here (Memᴰ·cast (sym (ap (λ (n : ℕ). k / 2 ^ n) d ∙ in-block (36 - 4 * (b + 1)) (16 * x + v) k lo hi))
           (listed-prefix img (bytes (s .ready)) (checked (s .ready)) (s .ready .some) k (4 * b) (omega (arith, s .to)) m)))
 
     -- an on bit
