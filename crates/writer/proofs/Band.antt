@@ -13,14 +13,14 @@ use Rattle.format.proofs.Trie.{Asc}
 use Rattle.format.proofs.Bytes.{length-pageBytes}
 use Rattle.format.proofs.Members.{of-ascending, ascending-of}
 use Rattle.format.proofs.RunHeads.{heads}
-use Rattle.writer.specs.declared.Head.{Head}
-use Rattle.writer.specs.declared.run.PageRun.{PageRun}
-use Rattle.writer.specs.Run.{Prefixes, PageIs, bandAbove}
-use Rattle.writer.specs.Page.{PageRoom, PageDone}
+use Rattle.page_writer.specs.declared.Head.{Head}
+use Rattle.packing.specs.declared.PageRun.{PageRun}
+use Rattle.packing.specs.Run.{Prefixes, PageIs, bandAbove}
+use Rattle.page_writer.specs.Page.{PageRoom, PageDone}
 use Rattle.writer.specs.Image.{BandRoom, BandDone, bytesOfBand, pagesFrom}
 use Rattle.writer.proofs.Parts.{put, length-put, take-put, drop-put, rest-put}
-use Rattle.writer.proofs.Runs.{Run, run-of, part, part-join, part-all, asc-drop}
-use Rattle.writer.proofs.Bands.{roots-are, roots-is, roots-join, links-are, no-pages, heads-few}
+use Rattle.packing.proofs.Runs.{Run, run-of, part, part-join, part-all, asc-drop}
+use Rattle.packing.proofs.Bands.{roots-are, roots-is, roots-join, links-are, no-pages, heads-few}
 
 -- the pages of the first `from` prefixes q are done; keys are what has become of q, and out of out₀
 pub record Pages (q out₀ : List ℕ) (first : ℕ) (keys out : List ℕ) (head : Head) (number from : ℕ) : Type 0 where

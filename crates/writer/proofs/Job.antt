@@ -20,7 +20,7 @@ use Rattle.format.proofs.Exact.{list-writable, write-is}
 use Rattle.writer.specs.declared.Written.the-variants.{Length, Refused}
 use Rattle.writer.specs.declared.Plan.{Plan}
 use Rattle.writer.specs.Writer.{WrittenKeys}
-use Rattle.writer.specs.Run.{Prefixes}
+use Rattle.packing.specs.Run.{Prefixes}
 use Rattle.writer.specs.Image.{countsOf, pagesIn, headerOf, pagesFrom, bytesOfBand, bytesOfBands, Planned, ImageRoom}
 use Rattle.writer.specs.Planning.{usedUp, FirstPass, KeysPlanned, unordered, passed}
 use Rattle.writer.proofs.Header.{length-two}

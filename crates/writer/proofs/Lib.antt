@@ -1,22 +1,16 @@
-pub mod Runs
-pub mod Bands
-pub mod Ascending
-pub mod Scan
-pub mod Counting
-pub mod Stores
+-- Laws for the writer. Each file's head says its subject; a file uses only those above it.
+
+-- numbers moved in a list, and a part put back
+pub mod Moves
 pub mod Parts
-pub mod Nodes
-pub mod Filling
-pub mod Fronts
-pub mod Levels
-pub mod Marks
-pub mod Pages
-pub mod Filled
+-- the pages of one band, and the header
 pub mod Band
 pub mod Header
+-- the two passes over the bands, and the image of a list of keys
 pub mod Planning
 pub mod Writing
 pub mod Job
+-- the lent list: woven into keys, and packed again; walks over memory
 pub mod Weaving
 pub mod Again
 pub mod Local

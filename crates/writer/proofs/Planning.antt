@@ -5,7 +5,7 @@ use mathlib.Core.List.{List, [], _∷_, _++_, append-assoc, append-nil, map, fla
 use Prim.Native.Nat.{ℕ, zero, suc, _+_, _*_, _-_, _≤_, _<_}
 use native.Mathlib.Omega.{arith}
 use native.Mathlib.Decide.{ℕ-discrete}
-use lib.ListN.{length, getD, take, drop, set, replicate, length-append, length-drop, length-set, take-append-drop}
+use lib.ListN.{length, getD, take, drop, set, replicate, length-append, length-drop, length-set, take-append-drop, length-replicate}
 use lib.Seq.{take-all, take-append-le, drop-append-le, drop-drop, length-take-le, getD-set-same, getD-set-other}
 use Rattle.format.specs.Seq.{total, numbersFrom}
 use Rattle.format.specs.Trie.{parents, levelsOver}
@@ -14,14 +14,12 @@ use Rattle.format.specs.Writer.{bandsOf, pagesOf, rootsIn}
 use Rattle.format.proofs.Members.{of-ascending, ascending-of}
 use Rattle.format.proofs.RunHeads.{heads}
 use Rattle.format.proofs.Runs.{bandOver, bands-of-keys}
-use Rattle.writer.specs.declared.run.BandCounts.{BandCounts}
-use Rattle.writer.specs.Run.{Prefixes, BandCounted, bandAbove, rootsAbove}
+use Rattle.packing.specs.declared.BandCounts.{BandCounts}
+use Rattle.packing.specs.Run.{Prefixes, BandCounted, bandAbove, rootsAbove}
 use Rattle.writer.specs.Image.{countsOf, pagesIn}
 use Rattle.writer.specs.Planning.{usedUp, FirstPass}
-use Rattle.writer.proofs.Stores.{length-zeros}
-use Rattle.writer.proofs.Runs.{rest-run}
-use Rattle.writer.proofs.Bands.{roots-is, heads-few}
-use Rattle.writer.proofs.Pages.{heads-listed}
+use Rattle.packing.proofs.Runs.{rest-run}
+use Rattle.packing.proofs.Bands.{roots-is, heads-few, heads-listed}
 
 -- ---- the bands above prefixes of 4 b bits
 
@@ -184,7 +182,7 @@ module _ (keys₀ keys counts : List ℕ) (pages n b : ℕ) (s : Planning keys�
       roots-is′ = c .roots-are ∙ ap (λ (k : ℕ). rootsIn (bandAbove (take k keys))) z
 
       room : 2 * b ≤ length counts
-      room = omega (arith, ap length (s .counts-are), length-append (replicate (2 * b) 0) (flatMap countsIn (s .done)), length-zeros (2 * b))
+      room = omega (arith, ap length (s .counts-are), length-append (replicate (2 * b) 0) (flatMap countsIn (s .done)), length-replicate {A = ℕ} (2 * b) 0)
 
       go : (b′ : ℕ) → b ≡ suc b′ → Planning keys₀ (after ++ drop (n - 0) keys) (set (set counts (2 * b′) (r .pages)) (2 * b′ + 1) (r .roots)) (pages + r .pages) (r .roots) b′
       go b′ e =

@@ -10,7 +10,7 @@ use Rattle.format.specs.Seq.{total}
 use Rattle.format.specs.Writer.{bandsOf, pagesOf, rootsIn}
 use Rattle.format.proofs.WrittenPages.{length-bandBytes}
 use Rattle.writer.specs.declared.Plan.{Plan}
-use Rattle.writer.specs.Run.{Prefixes, bandAbove, rootsAbove}
+use Rattle.packing.specs.Run.{Prefixes, bandAbove, rootsAbove}
 use Rattle.writer.specs.Image.{countsOf, pagesIn, BandRoom, BandDone, ImageRoom, bytesOfBand, bytesOfBands, pagesFrom}
 use Rattle.writer.proofs.Planning.{bandsUp, bands-up, roots-prefixes, countsIn, pageCount, first-ones, back-length}
 

@@ -7,7 +7,7 @@ use lib.ListN.{length, take, drop, replicate}
 use Rattle.format.specs.Seq.{total}
 use Rattle.format.specs.Page.{twoBytes}
 use Rattle.format.specs.Writer.{bandsOf, bandBytes, pagesOf, rootsIn}
-use Rattle.writer.specs.Run.{Prefixes, bandAbove, rootsAbove}
+use Rattle.packing.specs.Run.{Prefixes, bandAbove, rootsAbove}
 use Rattle.writer.specs.declared.Plan.{Plan}
 
 -- the page count and the root count of each band, and the pages of all

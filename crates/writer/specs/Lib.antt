@@ -1,5 +1,3 @@
-pub mod Run
-pub mod Page
 pub mod Image
 pub mod Planning
 pub mod Writer

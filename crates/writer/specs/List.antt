@@ -12,7 +12,7 @@ use Rattle.format.specs.Writer.{write, bufferAfterWrite}
 use Rattle.format.specs.declared.Admission.{Admission}
 use Rattle.writer.specs.declared.Written.{Written}
 use Rattle.writer.specs.Writer.{outcomeOf, WrittenKeys}
-use Rattle.writer.specs.Run.{Prefixes}
+use Rattle.packing.specs.Run.{Prefixes}
 use Rattle.writer.specs.Image.{Planned}
 use Rattle.writer.specs.Planning.{usedUp, IsRefusal, KeysPlanned}
 use Rattle.writer.specs.declared.Plan.{Plan}

@@ -1,20 +1,19 @@
 // The writer: from a list of keys to its image in a lent buffer. A first pass plans the pages, so that nothing is written where
 // the buffer is too small; a second fills each page in its own 64 bytes. Both go from the last band to the first, and turn the prefixes
 // below a band into those of its roots, so that the work falls with the number of nodes. They share one array: the first pass uses up
-// the first keys only, which are put there again for the second.
-mod run; // run.rt: runs of prefixes, and where a page ends
-mod page; // page.rt: the bytes of one page
+// the first keys only, which are put there again for the second. Crate packing finds where a page ends, and crate page_writer fills it.
 mod list; // list.rt: the lent list of admissions, packed and woven into keys
 
 use format::Admission;
 use format::OutLink;
 use format::Root;
+use page_writer::Head;
 ghost use mathlib.Core.Path.{_≡_};
 ghost use mathlib.Core.List.{_++_};
 ghost use Prim.Native.Nat.{_+_, _-_, _≤_};
 ghost use lib.ListN.{length, take, drop};
 ghost use Rattle.writer.specs.Writer.{WrittenKeys};
-ghost use Rattle.writer.specs.Run.{Prefixes};
+ghost use Rattle.packing.specs.Run.{Prefixes};
 ghost use Rattle.writer.specs.List.{WrittenList};
 ghost use Rattle.writer.specs.Image.{headerOf, pagesFrom, bytesOfBands, Planned, BandRoom, BandDone, ImageRoom};
 ghost use Rattle.writer.specs.Planning.{usedUp, IsRefusal, FirstPass, KeysPlanned};
@@ -23,12 +22,6 @@ ghost use Rattle.writer.specs.Planning.{usedUp, IsRefusal, FirstPass, Ke
 pub enum Written {
     Length(usize),
     Refused(u8),
-}
-
-// Paper 01's T and B of a page: the numbers of its first root and its first out-link.
-pub struct Head {
-    pub root: Root,
-    pub link: OutLink,
 }
 
 // What the first pass finds: the question that got a no, 14 or 15, or 0; page count and root count of each band, and the pages of all.
@@ -68,7 +61,7 @@ fn planned(keys: &mut [u32]) -> Plan
     let mut b = 8;
     while 0 < b {
         b -= 1;
-        let band = run::count_band(&mut keys[0..n]);
+        let band = packing::count_band(&mut keys[0..n]);
         counts[2 * b] = band.pages as u16;
         counts[2 * b + 1] = band.roots as u16;
         pages += band.pages;
@@ -87,7 +80,7 @@ fn plan_keys(keys: &mut [u32]) -> Plan
     requires { ⌜ length (now keys) ≤ 4096 ⌝ }
     ensures { λ r. ⌜ KeysPlanned (now (keys .entry)) (now (keys .exit)) r ⌝ }
 {
-    if !run::is_ascending(keys) {
+    if !packing::is_ascending(keys) {
         return refused(15);
     }
     planned(keys)
@@ -104,13 +97,13 @@ fn fill_header(out: &mut [u8], n: u16, counts: [u16; 16])
     out[3] = 0;
     out[4] = 1;
     out[5] = 0;
-    page::put_number(out, 6, n);
+    page_writer::put_number(out, 6, n);
     let mut i = 0;
     while i < 16 {
-        page::put_number(out, 8 + 2 * i, counts[i]);
+        page_writer::put_number(out, 8 + 2 * i, counts[i]);
         i += 1;
     }
-    page::clear(out, 40, 24);
+    page_writer::clear(out, 40, 24);
 }
 
 // Moves the `n` numbers before `end` to the places from `to` on.
@@ -138,10 +131,10 @@ fn fill_band(keys: &mut [u32], out: &mut [u8], first: usize) -> usize
     let mut number = first;
     let mut from = 0;
     while from < keys.len() {
-        let run = run::page_run(&keys[from..]);
+        let run = packing::page_run(&keys[from..]);
         let end = from + run.end;
         let at = 64 * number;
-        let next = page::fill_page(&mut out[at..], &mut keys[from..end], run.nodes, head);
+        let next = page_writer::fill_page(&mut out[at..], &mut keys[from..end], run.nodes, head);
         move_down(keys, head.root.0, end, next.root.0 - head.root.0);
         head = next;
         from = end;

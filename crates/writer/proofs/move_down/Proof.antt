@@ -1,7 +1,7 @@
 -- `writer::move_down` meets its contract. The invariant is `Moved`. Assumes nothing.
 use Prim.Native.Nat.{_-_}
 use borrow.Author.Needs.{needs}
-use Rattle.writer.proofs.Stores.{Moved, moved-start, moved-next, moved-end}
+use Rattle.writer.proofs.Moves.{Moved, moved-start, moved-next, moved-end}
 use Rattle.writer.proofs.move_down.Statement.{statement}
 use Rattle.writer.proofs.move_down.Tie as tie
 

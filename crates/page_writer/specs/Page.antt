@@ -1,0 +1,81 @@
+-- What is stored in a page.
+-- Assumes nothing.
+use mathlib.Core.Path.{_≡_}
+use mathlib.Core.Bool.{true, cond}
+use mathlib.Core.List.{List, [], _++_, flatMap, flatten}
+use Prim.Native.Nat.{ℕ, _+_, _-_, _*_, _/_, _%_, _^_, _≤_, _<_}
+use lib.Dec.{eqb}
+use lib.ListN.{length, getD, take, drop, set, replicate}
+use Rattle.format.specs.Seq.{All}
+use Rattle.format.specs.Trie.{parents, nodesOver, onBits, bitOf}
+use Rattle.format.specs.Page.{nodeBytes, pairsOf, nodeCount}
+use Rattle.format.specs.Writer.{ascending, pageBytes, rootsIn}
+use Rattle.packing.specs.Run.{bandAbove, rootsAbove}
+use Rattle.page_writer.specs.declared.Head.{Head}
+use Rattle.page_writer.specs.declared.Level.{Level}
+
+-- the 240 nodes of a page, and a page with other nodes
+unfoldable pub nodesOf : List ℕ → List ℕ
+nodesOf page = flatMap pairsOf (take 60 (drop 4 page))
+
+unfoldable pub withNodes : List ℕ → List ℕ → List ℕ
+withNodes page nodes = take 4 page ++ (nodeBytes 60 nodes ++ drop 64 page)
+
+-- the bit that a prefix turns on in node n, as it stands in the node's byte
+unfoldable pub bitIn : ℕ → ℕ → ℕ
+bitIn n x = bitOf x * 4 ^ (3 - n % 4)
+
+-- leaving node n for the one before it: the page, where n is the first of its byte, and what the byte of the node before holds
+unfoldable pub pageLeft : List ℕ → ℕ → ℕ → List ℕ
+pageLeft page n byte = cond (eqb (n % 4) 0) (set page (4 + n / 4) byte) page
+
+unfoldable pub byteLeft : ℕ → ℕ → ℕ
+byteLeft n byte = cond (eqb (n % 4) 0) 0 byte
+
+-- a page whose nodes before `end` are 00, with room for the level above the prefixes from `from` on
+pub record LevelRoom (page prefixes : List ℕ) (from end : ℕ) : Type 0 where
+  pub some : from < length prefixes
+  pub ordered : ascending (drop from prefixes) ≡ true
+  pub room : 64 ≤ length page
+  pub within : end ≤ 240
+  pub fits : length (nodesOver (drop from prefixes)) ≤ end
+  pub empty : take end (nodesOf page) ≡ replicate end 0
+  pub small : All (λ n. n ≤ 3) (drop end (nodesOf page))
+
+-- the level stands before `end`, and the prefixes have become their parents
+pub record LevelDone (page prefixes : List ℕ) (from end : ℕ) (page′ prefixes′ : List ℕ) (level : Level) : Type 0 where
+  pub place : level .node + length (nodesOver (drop from prefixes)) ≡ end
+  pub bytes : page′ ≡ withNodes page (replicate (level .node) 0 ++ (nodesOver (drop from prefixes) ++ drop end (nodesOf page)))
+  pub lifted : drop (level .first) prefixes′ ≡ parents (drop from prefixes)
+
+-- a page without nodes, with room for the four levels above prefixes
+pub record LevelsRoom (page prefixes : List ℕ) (count : ℕ) : Type 0 where
+  pub some : 0 < length prefixes
+  pub ordered : ascending prefixes ≡ true
+  pub room : 64 ≤ length page
+  pub counted : count ≡ nodeCount (rootsIn (bandAbove prefixes)) (bandAbove prefixes)
+  pub fits : count ≤ 240
+  pub empty : nodesOf page ≡ replicate 240 0
+
+-- the levels are filled in, the fourth from a node on, and the prefixes have become those of the roots
+pub record LevelsDone (page prefixes : List ℕ) (count : ℕ) (page′ prefixes′ : List ℕ) (level : Level) : Type 0 where
+  pub bytes : page′ ≡ withNodes page (flatten (bandAbove prefixes) ++ replicate (240 - count) 0)
+  pub place : level .node + length (nodesOver prefixes) ≡ count
+  pub lifted : drop (level .first) prefixes′ ≡ rootsAbove prefixes
+
+-- room for the page of a run of prefixes, with T and B
+pub record PageRoom (page prefixes : List ℕ) (count : ℕ) (head : Head) : Type 0 where
+  pub some : 0 < length prefixes
+  pub ordered : ascending prefixes ≡ true
+  pub room : 64 ≤ length page
+  pub counted : count ≡ nodeCount (rootsIn (bandAbove prefixes)) (bandAbove prefixes)
+  pub fits : count ≤ 240
+  pub T-fits : head .root .0 + length prefixes ≤ 4096
+  pub B-fits : head .link .0 + length prefixes ≤ 4096
+
+-- the filled page, the T and B of the next, and the prefixes of the page's roots
+pub record PageDone (page prefixes : List ℕ) (head : Head) (page′ prefixes′ : List ℕ) (head′ : Head) : Type 0 where
+  pub bytes : page′ ≡ pageBytes (head .root .0) (head .link .0) (bandAbove prefixes) ++ drop 64 page
+  pub T-next : head′ .root .0 ≡ head .root .0 + rootsIn (bandAbove prefixes)
+  pub B-next : head′ .link .0 ≡ head .link .0 + onBits (getD (bandAbove prefixes) 3 [])
+  pub lifted : drop (length prefixes - rootsIn (bandAbove prefixes)) prefixes′ ≡ rootsAbove prefixes

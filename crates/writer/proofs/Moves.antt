@@ -1,0 +1,82 @@
+-- Numbers moved in a list: some of its own down to a place, and another list's to the front.
+-- Assumes nothing.
+use mathlib.Core.Path.{_≡_, refl, sym, ap, ap₂, _∙_}
+use mathlib.Core.List.{List, _++_, append-assoc}
+use Prim.Native.Nat.{ℕ, _+_, _-_, _≤_, _<_}
+use native.Mathlib.Numerals.{add-one}
+use native.Mathlib.Omega.{arith}
+use lib.ListN.{length, getD, take, drop, set, length-append, length-drop, length-set}
+use lib.Seq.{length-take-le, take-all, take-suc, drop-at, getD-drop}
+use Rattle.packing.proofs.Stores.{stored, stored-none, stored-next}
+
+-- ---- numbers moved down
+
+pub record Moved (l : List ℕ) (to end n : ℕ) (m : List ℕ) (i : ℕ) : Type 0 where
+  pub order : to + n ≤ end
+  pub room : end ≤ length l
+  pub within : i ≤ n
+  pub done : m ≡ stored l to (take i (drop (end - n) l))
+  pub same : length m ≡ length l
+
+pub moved-start : (l : List ℕ) (to end n : ℕ) → to + n ≤ end → end ≤ length l → Moved l to end n l 0
+moved-start l to end n order room = record { order = order; room = room; within = omega arith; done = stored-none l to; same = refl }
+
+-- what stands after the stores is as it was
+stored-after : (l : List ℕ) (at : ℕ) (xs : List ℕ) (j : ℕ) → at + length xs ≤ j → at + length xs ≤ length l → getD (stored l at xs) j 0 ≡ getD l j 0
+stored-after l at xs j h k =
+    let n : length (take at l ++ xs) ≡ at + length xs = length-append (take at l) xs ∙ ap (_+ length xs) (length-take-le at l (omega arith)) in
+    let e : at + length xs + (j - (at + length xs)) ≡ j = omega arith in
+    ap (λ (i : ℕ). getD (stored l at xs) i 0) (sym e)
+    ∙ sym (getD-drop (at + length xs) (stored l at xs) (j - (at + length xs)) 0)
+    ∙ ap (λ (t : List ℕ). getD t (j - (at + length xs)) 0) (ap (drop (at + length xs)) (sym (append-assoc (take at l) xs (drop (at + length xs) l))) ∙ drop-at (take at l ++ xs) (drop (at + length xs) l) (at + length xs) n)
+    ∙ getD-drop (at + length xs) l (j - (at + length xs)) 0
+    ∙ ap (λ (i : ℕ). getD l i 0) e
+
+module _ (l : List ℕ) (to end n : ℕ) (m : List ℕ) (i : ℕ) (s : Moved l to end n m i) where
+  moved-length : length (take i (drop (end - n) l)) ≡ i
+  moved-length = length-take-le i (drop (end - n) l) (omega (arith, length-drop (end - n) l, s .order, s .room, s .within))
+
+  pub moved-next : i < n → Moved l to end n (set m (to + i) (getD m (end - n + i) 0)) (i + 1)
+  moved-next h =
+      let z = moved-length in
+      let read : getD m (end - n + i) 0 ≡ getD (drop (end - n) l) i 0 =
+      ap (λ (k : List ℕ). getD k (end - n + i) 0) (s .done) ∙ stored-after l to (take i (drop (end - n) l)) (end - n + i) (omega (arith, s .order)) (omega (arith, s .order, s .room)) ∙ sym (getD-drop (end - n) l i 0) in
+      let d : set m (to + i) (getD m (end - n + i) 0) ≡ stored l to (take (i + 1) (drop (end - n) l)) =
+      ap₂ (λ (k : List ℕ) (v : ℕ). set k (to + i) v) (s .done) read
+      ∙ ap (λ (j : ℕ). set (stored l to (take i (drop (end - n) l))) (to + j) (getD (drop (end - n) l) i 0)) (sym z)
+      ∙ stored-next l to (take i (drop (end - n) l)) (getD (drop (end - n) l) i 0) (omega (arith, s .order, s .room))
+      ∙ ap (stored l to) (sym (take-suc (drop (end - n) l) i 0 (omega (arith, length-drop (end - n) l, s .order, s .room))) ∙ ap (λ (j : ℕ). take j (drop (end - n) l)) (sym (add-one i))) in
+      record { order = s .order; room = s .room; within = omega arith; done = d; same = length-set m (to + i) (getD m (end - n + i) 0) ∙ s .same }
+
+  pub moved-end : n ≤ i → m ≡ take to l ++ (take n (drop (end - n) l) ++ drop (to + n) l)
+  moved-end h =
+      let e : i ≡ n = omega (arith, s .within) in
+      s .done
+      ∙ ap (λ (j : ℕ). take to l ++ (take i (drop (end - n) l) ++ drop (to + j) l)) moved-length
+      ∙ ap (λ (j : ℕ). take to l ++ (take j (drop (end - n) l) ++ drop (to + j) l)) e
+
+-- ---- a list copied to the front
+
+pub record Loaded (l keys m : List ℕ) (i : ℕ) : Type 0 where
+  pub room : length keys ≤ length l
+  pub within : i ≤ length keys
+  pub done : m ≡ stored l 0 (take i keys)
+  pub same : length m ≡ length l
+
+pub loaded-start : (l keys : List ℕ) → length keys ≤ length l → Loaded l keys l 0
+loaded-start l keys h = record { room = h; within = omega arith; done = stored-none l 0; same = refl }
+
+pub loaded-next : (l keys m : List ℕ) (i : ℕ) → Loaded l keys m i → i < length keys → Loaded l keys (set m i (getD keys i 0)) (i + 1)
+loaded-next l keys m i s h =
+    let z : length (take i keys) ≡ i = length-take-le i keys (omega arith) in
+    let o : 0 + length (take i keys) ≡ i = omega arith in
+    let d : set m i (getD keys i 0) ≡ stored l 0 (take (i + 1) keys) =
+    ap₂ (λ (k : List ℕ) (j : ℕ). set k j (getD keys i 0)) (s .done) (sym o)
+    ∙ stored-next l 0 (take i keys) (getD keys i 0) (omega (arith, s .room))
+    ∙ ap (stored l 0) (sym (take-suc keys i 0 h) ∙ ap (λ (j : ℕ). take j keys) (sym (add-one i))) in
+    record { room = s .room; within = omega arith; done = d; same = length-set m i (getD keys i 0) ∙ s .same }
+
+pub loaded-end : (l keys m : List ℕ) (i : ℕ) → Loaded l keys m i → length keys ≤ i → m ≡ keys ++ drop (length keys) l
+loaded-end l keys m i s h =
+    let z : 0 + length keys ≡ length keys = omega arith in
+    s .done ∙ ap (stored l 0) (take-all i keys h) ∙ ap (λ (n : ℕ). keys ++ drop n l) z
