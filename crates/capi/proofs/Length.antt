@@ -17,7 +17,7 @@ use Rattle.format.specs.Writer.{bandsIn, bandsOf, imageOf, listQuestions, pages
 use Rattle.format.proofs.Jobs.{yes-of-returns}
 use Rattle.format.proofs.Lists.{all-left, every-all}
 use Rattle.format.proofs.Questions.{yes-of-none}
-use Rattle.writer.specs.Image.{pagesIn}
+use Rattle.image_writer.specs.Image.{pagesIn}
 use Rattle.writer.specs.List.{WrittenList, pairsIn}
 use Rattle.writer.specs.declared.Written.{Written}
 use Rattle.writer.specs.declared.Written.the-variants.{Length, Refused}

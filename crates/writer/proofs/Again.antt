@@ -9,10 +9,10 @@ use lib.ListN.{length, take, drop, replicate, length-append, length-map, take-ap
 use lib.Seq.{take-all, take-at, take-append-add, length-take-le}
 use Rattle.zorder.specs.Packed.{keyOfPacked}
 use Rattle.format.specs.declared.Admission.{Admission}
-use Rattle.writer.specs.declared.Plan.{Plan}
+use Rattle.image_writer.specs.declared.Plan.{Plan}
 use Rattle.writer.specs.declared.Written.{Written}
 use Rattle.writer.specs.Writer.{WrittenKeys}
-use Rattle.writer.specs.Planning.{usedUp, FirstPass, KeysPlanned, unordered, passed}
+use Rattle.image_writer.specs.Planning.{usedUp, FirstPass, KeysPlanned, unordered, passed}
 use Rattle.writer.specs.List.{keysIn, pairsPacked, fitting, over, packedOver, wovenAgain, PackedPlanned, PackedAgain, PackedRoom, PackedWritten, WrittenList, too-many, at-most, not-written, written}
 use Rattle.writer.proofs.Job as job
 use Rattle.writer.proofs.Weaving.{keys-length, pairs-length, over-take, over-length, over-rest, keys-woven, in-pairs}

@@ -18,14 +18,14 @@ use Rattle.format.proofs.Questions.{after-yes}
 use Rattle.format.proofs.Members.{of-ascending}
 use Rattle.format.proofs.Exact.{list-writable, write-is}
 use Rattle.writer.specs.declared.Written.the-variants.{Length, Refused}
-use Rattle.writer.specs.declared.Plan.{Plan}
+use Rattle.image_writer.specs.declared.Plan.{Plan}
 use Rattle.writer.specs.Writer.{WrittenKeys}
 use Rattle.packing.specs.Run.{Prefixes}
-use Rattle.writer.specs.Image.{countsOf, pagesIn, headerOf, pagesFrom, bytesOfBand, bytesOfBands, Planned, ImageRoom}
-use Rattle.writer.specs.Planning.{usedUp, FirstPass, KeysPlanned, unordered, passed}
-use Rattle.writer.proofs.Header.{length-two}
-use Rattle.writer.proofs.Planning.{countsIn, pageCount, bands-up}
-use Rattle.writer.proofs.Writing.{length-up, length-counts, length-band}
+use Rattle.image_writer.specs.Image.{countsOf, pagesIn, headerOf, pagesFrom, bytesOfBand, bytesOfBands, Planned, ImageRoom}
+use Rattle.image_writer.specs.Planning.{usedUp, FirstPass, KeysPlanned, unordered, passed}
+use Rattle.image_writer.proofs.Header.{length-two}
+use Rattle.image_writer.proofs.Planning.{countsIn, pageCount, bands-up}
+use Rattle.image_writer.proofs.Writing.{length-up, length-counts, length-band}
 
 -- ---- the image
 

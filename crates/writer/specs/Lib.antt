@@ -1,4 +1,2 @@
-pub mod Image
-pub mod Planning
 pub mod Writer
 pub mod List

@@ -13,9 +13,9 @@ use Rattle.format.specs.declared.Admission.{Admission}
 use Rattle.writer.specs.declared.Written.{Written}
 use Rattle.writer.specs.Writer.{outcomeOf, WrittenKeys}
 use Rattle.packing.specs.Run.{Prefixes}
-use Rattle.writer.specs.Image.{Planned}
-use Rattle.writer.specs.Planning.{usedUp, IsRefusal, KeysPlanned}
-use Rattle.writer.specs.declared.Plan.{Plan}
+use Rattle.image_writer.specs.Image.{Planned}
+use Rattle.image_writer.specs.Planning.{usedUp, IsRefusal, KeysPlanned}
+use Rattle.image_writer.specs.declared.Plan.{Plan}
 use Rattle.writer.specs.declared.Written.the-variants.{Refused}
 
 -- the pairs of holder and slot that format's definitions speak of

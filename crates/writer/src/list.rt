@@ -1,8 +1,8 @@
 // The lent list of admissions. The borrow checker covers no function over a lent slice of structs, so `pack_first` is proved by hand, and
 // thin: each admission goes into one number, and the covered functions weave these into keys, plan and write.
-use crate::Plan;
 use crate::Written;
 use format::Admission;
+use image_writer::Plan;
 ghost use mathlib.Core.Path.{_≡_};
 ghost use Prim.Native.Nat.{_≤_};
 ghost use lib.ListN.{length};
@@ -41,10 +41,10 @@ pub fn plan_packed(pairs: &mut [u32], n: usize) -> Plan
     ensures { λ r. ⌜ PackedPlanned (now (pairs .entry)) n (now (pairs .exit)) r ⌝ }
 {
     if 4096 < n {
-        return crate::refused(14);
+        return image_writer::refused(14);
     }
     zorder::weave_all(&mut pairs[0..n]);
-    crate::plan_keys(&mut pairs[0..n])
+    image_writer::plan_keys(&mut pairs[0..n])
 }
 
 // Weaves the admissions that were packed again, and writes the image of the first `n` keys by their plan.
@@ -55,7 +55,7 @@ pub fn fill_packed(pairs: &mut [u32], n: usize, out: &mut [u8], plan: Plan) -> W
     if 0 < plan.refusal {
         return Written::Refused(plan.refusal);
     }
-    let used = crate::used_up(plan);
+    let used = image_writer::used_up(plan);
     zorder::weave_all(&mut pairs[0..used]);
     crate::fill_image(&mut pairs[0..n], out, plan)
 }

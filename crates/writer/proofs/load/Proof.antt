@@ -2,7 +2,7 @@
 use Prim.Native.Nat.{_-_}
 use lib.ListN.{length}
 use borrow.Author.Needs.{needs}
-use Rattle.writer.proofs.Moves.{Loaded, loaded-start, loaded-next, loaded-end}
+use Rattle.writer.proofs.Copied.{Loaded, loaded-start, loaded-next, loaded-end}
 use Rattle.writer.proofs.load.Statement.{statement}
 use Rattle.writer.proofs.load.Tie as tie
 

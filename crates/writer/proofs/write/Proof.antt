@@ -50,16 +50,16 @@ use denote.Triple.Table.{entered, cited}
 use denote.Triple.Walked.{says, Stays, stay-none-slice, gave-slice, walkOf, goes-none-slice, goes-gave-slice, Walks, ends-at, walked, walk-meets}
 use denote.Triple.Clauses.{Lasts, ensured, lasts}
 use denote.Exit.{yes}
-use Rattle.writer.specs.Planning.{usedUp}
+use Rattle.image_writer.specs.Planning.{usedUp}
 use Rattle.writer.specs.List.{packedOver, PackedPlanned, PackedRoom, PackedWritten, WrittenList}
 use Rattle.writer.proofs.Again.{used-few, list-room, list-written}
 use Rattle.writer.proofs.Local as local
 use Rattle.format.specs.declared.Admission.{Admission}
-use Rattle.writer.specs.declared.Plan.{Plan}
+use Rattle.image_writer.specs.declared.Plan.{Plan}
 use Rattle.writer.specs.declared.Written.{Written}
 use Rattle.format.proofs.Admission as T
-use Rattle.writer.proofs.Plan as P
-use Rattle.writer.proofs.Plan.Laws as P′
+use Rattle.image_writer.proofs.Plan as P
+use Rattle.image_writer.proofs.Plan.Laws as P′
 use Rattle.writer.proofs.Written as S
 use Rattle.writer.proofs.Written.Laws as S′
 use Rattle.writer.proofs.list.pack_first as pack
@@ -70,10 +70,10 @@ use Rattle.writer.proofs.list.plan_packed as plan
 use Rattle.writer.proofs.list.plan_packed.Symbol as plan-def
 use Rattle.writer.proofs.list.plan_packed.Symbol.{name as #plan}
 use Rattle.writer.proofs.list.plan_packed.Met as plan-thm
-use Rattle.writer.proofs.used_up as used
-use Rattle.writer.proofs.used_up.Symbol as used-def
-use Rattle.writer.proofs.used_up.Symbol.{name as #used}
-use Rattle.writer.proofs.used_up.Met as used-thm
+use Rattle.image_writer.proofs.used_up as used
+use Rattle.image_writer.proofs.used_up.Symbol as used-def
+use Rattle.image_writer.proofs.used_up.Symbol.{name as #used}
+use Rattle.image_writer.proofs.used_up.Met as used-thm
 use Rattle.writer.proofs.list.fill_packed as fill
 use Rattle.writer.proofs.list.fill_packed.Symbol as fill-def
 use Rattle.writer.proofs.list.fill_packed.Symbol.{name as #fill}
@@ -325,5 +325,5 @@ write-spec 𝓤 H 𝓜 𝓖 𝓡 =
     (meets 𝓤 H (𝓖 .A) (givenOf 𝓤 H 𝓜 𝓖) (𝓜 .mem) (𝓡 .run) (tablesOf 𝓤 H 𝓜 (tables 𝓤 H 𝓜 𝓡 code.env))
     (cited 𝓤 H (Pack 𝓤 H (𝓖 .A) (𝓜 .mem) (𝓡 .run)) 𝓜 𝓡 code.env #pack pack-def.routine code.calls-writer·list·pack-first (pack-thm.met 𝓤 H 𝓜 𝓖 𝓡))
     (cited 𝓤 H (Planned 𝓤 H (𝓖 .A) (𝓜 .mem) (𝓡 .run)) 𝓜 𝓡 code.env #plan plan-def.routine code.calls-writer·list·plan-packed (plan-thm.met 𝓤 H 𝓜 𝓖 𝓡))
-    (cited 𝓤 H (Used 𝓤 H (𝓖 .A) (𝓜 .mem) (𝓡 .run)) 𝓜 𝓡 code.env #used used-def.routine code.calls-writer·used-up (used-thm.met 𝓤 H 𝓜 𝓖 𝓡))
+    (cited 𝓤 H (Used 𝓤 H (𝓖 .A) (𝓜 .mem) (𝓡 .run)) 𝓜 𝓡 code.env #used used-def.routine code.calls-image-writer·used-up (used-thm.met 𝓤 H 𝓜 𝓖 𝓡))
     (cited 𝓤 H (Filled 𝓤 H (𝓖 .A) (𝓜 .mem) (𝓡 .run)) 𝓜 𝓡 code.env #fill fill-def.routine code.calls-writer·list·fill-packed (fill-thm.met 𝓤 H 𝓜 𝓖 𝓡)))

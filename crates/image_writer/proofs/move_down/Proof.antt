@@ -1,9 +1,9 @@
--- `writer::move_down` meets its contract. The invariant is `Moved`. Assumes nothing.
+-- `image_writer::move_down` meets its contract. The invariant is `Moved`. Assumes nothing.
 use Prim.Native.Nat.{_-_}
 use borrow.Author.Needs.{needs}
-use Rattle.writer.proofs.Moves.{Moved, moved-start, moved-next, moved-end}
-use Rattle.writer.proofs.move_down.Statement.{statement}
-use Rattle.writer.proofs.move_down.Tie as tie
+use Rattle.image_writer.proofs.Moves.{Moved, moved-start, moved-next, moved-end}
+use Rattle.image_writer.proofs.move_down.Statement.{statement}
+use Rattle.image_writer.proofs.move_down.Tie as tie
 
 abbrev Inv-loop : tie.InvT-loop
 Inv-loop keys₀ to end n i₀ keys i = Moved keys₀ to end n keys i

@@ -17,8 +17,8 @@ use Rattle.page_writer.specs.declared.Head.{Head}
 use Rattle.packing.specs.declared.PageRun.{PageRun}
 use Rattle.packing.specs.Run.{Prefixes, PageIs, bandAbove}
 use Rattle.page_writer.specs.Page.{PageRoom, PageDone}
-use Rattle.writer.specs.Image.{BandRoom, BandDone, bytesOfBand, pagesFrom}
-use Rattle.writer.proofs.Parts.{put, length-put, take-put, drop-put, rest-put}
+use Rattle.image_writer.specs.Image.{BandRoom, BandDone, bytesOfBand, pagesFrom}
+use Rattle.image_writer.proofs.Parts.{put, length-put, take-put, drop-put, rest-put}
 use Rattle.packing.proofs.Runs.{Run, run-of, part, part-join, part-all, asc-drop}
 use Rattle.packing.proofs.Bands.{roots-are, roots-is, roots-join, links-are, no-pages, heads-few}
 

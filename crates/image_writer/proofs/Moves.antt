@@ -1,4 +1,4 @@
--- Numbers moved in a list: some of its own down to a place, and another list's to the front.
+-- Numbers of a list moved down to a place before them.
 -- Assumes nothing.
 use mathlib.Core.Path.{_≡_, refl, sym, ap, ap₂, _∙_}
 use mathlib.Core.List.{List, _++_, append-assoc}
@@ -6,10 +6,8 @@ use Prim.Native.Nat.{ℕ, _+_, _-_, _≤_, _<_}
 use native.Mathlib.Numerals.{add-one}
 use native.Mathlib.Omega.{arith}
 use lib.ListN.{length, getD, take, drop, set, length-append, length-drop, length-set}
-use lib.Seq.{length-take-le, take-all, take-suc, drop-at, getD-drop}
+use lib.Seq.{length-take-le, take-suc, drop-at, getD-drop}
 use Rattle.packing.proofs.Stores.{stored, stored-none, stored-next}
-
--- ---- numbers moved down
 
 pub record Moved (l : List ℕ) (to end n : ℕ) (m : List ℕ) (i : ℕ) : Type 0 where
   pub order : to + n ≤ end
@@ -54,29 +52,3 @@ module _ (l : List ℕ) (to end n : ℕ) (m : List ℕ) (i : ℕ) (s : Moved l t
       s .done
       ∙ ap (λ (j : ℕ). take to l ++ (take i (drop (end - n) l) ++ drop (to + j) l)) moved-length
       ∙ ap (λ (j : ℕ). take to l ++ (take j (drop (end - n) l) ++ drop (to + j) l)) e
-
--- ---- a list copied to the front
-
-pub record Loaded (l keys m : List ℕ) (i : ℕ) : Type 0 where
-  pub room : length keys ≤ length l
-  pub within : i ≤ length keys
-  pub done : m ≡ stored l 0 (take i keys)
-  pub same : length m ≡ length l
-
-pub loaded-start : (l keys : List ℕ) → length keys ≤ length l → Loaded l keys l 0
-loaded-start l keys h = record { room = h; within = omega arith; done = stored-none l 0; same = refl }
-
-pub loaded-next : (l keys m : List ℕ) (i : ℕ) → Loaded l keys m i → i < length keys → Loaded l keys (set m i (getD keys i 0)) (i + 1)
-loaded-next l keys m i s h =
-    let z : length (take i keys) ≡ i = length-take-le i keys (omega arith) in
-    let o : 0 + length (take i keys) ≡ i = omega arith in
-    let d : set m i (getD keys i 0) ≡ stored l 0 (take (i + 1) keys) =
-    ap₂ (λ (k : List ℕ) (j : ℕ). set k j (getD keys i 0)) (s .done) (sym o)
-    ∙ stored-next l 0 (take i keys) (getD keys i 0) (omega (arith, s .room))
-    ∙ ap (stored l 0) (sym (take-suc keys i 0 h) ∙ ap (λ (j : ℕ). take j keys) (sym (add-one i))) in
-    record { room = s .room; within = omega arith; done = d; same = length-set m i (getD keys i 0) ∙ s .same }
-
-pub loaded-end : (l keys m : List ℕ) (i : ℕ) → Loaded l keys m i → length keys ≤ i → m ≡ keys ++ drop (length keys) l
-loaded-end l keys m i s h =
-    let z : 0 + length keys ≡ length keys = omega arith in
-    s .done ∙ ap (stored l 0) (take-all i keys h) ∙ ap (λ (n : ℕ). keys ++ drop n l) z

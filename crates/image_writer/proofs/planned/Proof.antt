@@ -1,8 +1,8 @@
--- `writer::planned` meets its contract. The invariant is `Planning`. Assumes nothing.
+-- `image_writer::planned` meets its contract. The invariant is `Planning`. Assumes nothing.
 use borrow.Author.Needs.{needs}
-use Rattle.writer.proofs.Planning.{Planning, planning-start, part-prefixes, planning-next, planning-end}
-use Rattle.writer.proofs.planned.Statement.{statement}
-use Rattle.writer.proofs.planned.Tie as tie
+use Rattle.image_writer.proofs.Planning.{Planning, planning-start, part-prefixes, planning-next, planning-end}
+use Rattle.image_writer.proofs.planned.Statement.{statement}
+use Rattle.image_writer.proofs.planned.Tie as tie
 
 abbrev Inv-loop : tie.InvT-loop
 Inv-loop keys₀ counts₀ pages₀ n₀ b₀ keys counts pages n b = Planning keys₀ keys counts pages n b

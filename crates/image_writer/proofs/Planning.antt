@@ -16,8 +16,8 @@ use Rattle.format.proofs.RunHeads.{heads}
 use Rattle.format.proofs.Runs.{bandOver, bands-of-keys}
 use Rattle.packing.specs.declared.BandCounts.{BandCounts}
 use Rattle.packing.specs.Run.{Prefixes, BandCounted, bandAbove, rootsAbove}
-use Rattle.writer.specs.Image.{countsOf, pagesIn}
-use Rattle.writer.specs.Planning.{usedUp, FirstPass}
+use Rattle.image_writer.specs.Image.{countsOf, pagesIn}
+use Rattle.image_writer.specs.Planning.{usedUp, FirstPass}
 use Rattle.packing.proofs.Runs.{rest-run}
 use Rattle.packing.proofs.Bands.{roots-is, heads-few, heads-listed}
 

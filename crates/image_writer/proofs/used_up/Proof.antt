@@ -1,9 +1,9 @@
--- `writer::used_up` meets its contract. Assumes nothing.
+-- `image_writer::used_up` meets its contract. Assumes nothing.
 use mathlib.Core.Path.{refl}
 use borrow.Author.Needs.{needs}
-use Rattle.writer.specs.Planning.{usedUp}
-use Rattle.writer.proofs.used_up.Statement.{statement}
-use Rattle.writer.proofs.used_up.Tie as tie
+use Rattle.image_writer.specs.Planning.{usedUp}
+use Rattle.image_writer.proofs.used_up.Statement.{statement}
+use Rattle.image_writer.proofs.used_up.Tie as tie
 
 returns : tie.Need-returns
 unfolding usedUp

@@ -1,10 +1,10 @@
--- `writer::plan_keys` meets its contract. Assumes nothing.
+-- `image_writer::plan_keys` meets its contract. Assumes nothing.
 use mathlib.Core.Path.{sym, _∙_}
 use borrow.Author.Tests.{not-true, not-false}
 use borrow.Author.Needs.{needs}
-use Rattle.writer.specs.Planning.{unordered, passed}
-use Rattle.writer.proofs.plan_keys.Statement.{statement}
-use Rattle.writer.proofs.plan_keys.Tie as tie
+use Rattle.image_writer.specs.Planning.{unordered, passed}
+use Rattle.image_writer.proofs.plan_keys.Statement.{statement}
+use Rattle.image_writer.proofs.plan_keys.Tie as tie
 
 returns : tie.Need-returns
 returns c = unordered (sym (c .before .before .is-ascending .ensures) ∙ not-true _ (c .before .if1 .taken)) (c .refused .ensures)

@@ -6,8 +6,8 @@ use mathlib.Core.List.{List}
 use Prim.Native.Nat.{ℕ, _≤_}
 use lib.ListN.{length, getD, drop}
 use Rattle.format.specs.Writer.{ascending}
-use Rattle.writer.specs.Image.{Planned}
-use Rattle.writer.specs.declared.Plan.{Plan}
+use Rattle.image_writer.specs.Image.{Planned}
+use Rattle.image_writer.specs.declared.Plan.{Plan}
 
 -- how many of the first keys the first pass used up: as many as the last band has roots
 unfoldable pub usedUp : Plan → ℕ

@@ -9,10 +9,10 @@ use lib.Seq.{take-all, take-append-le, take-take, drop-at, length-take-le, getD-
 use Rattle.format.specs.Seq.{total}
 use Rattle.format.specs.Writer.{bandsOf, pagesOf, rootsIn}
 use Rattle.format.proofs.WrittenPages.{length-bandBytes}
-use Rattle.writer.specs.declared.Plan.{Plan}
+use Rattle.image_writer.specs.declared.Plan.{Plan}
 use Rattle.packing.specs.Run.{Prefixes, bandAbove, rootsAbove}
-use Rattle.writer.specs.Image.{countsOf, pagesIn, BandRoom, BandDone, ImageRoom, bytesOfBand, bytesOfBands, pagesFrom}
-use Rattle.writer.proofs.Planning.{bandsUp, bands-up, roots-prefixes, countsIn, pageCount, first-ones, back-length}
+use Rattle.image_writer.specs.Image.{countsOf, pagesIn, BandRoom, BandDone, ImageRoom, bytesOfBand, bytesOfBands, pagesFrom}
+use Rattle.image_writer.proofs.Planning.{bandsUp, bands-up, roots-prefixes, countsIn, pageCount, first-ones, back-length}
 
 -- the pages before `first` are left: those of the bands above the first n of keys, b of them; `last` is the number after the last page
 pub record Writing (keys₀ out₀ counts : List ℕ) (last : ℕ) (keys out : List ℕ) (first n b : ℕ) : Type 0 where

@@ -1,8 +1,8 @@
--- `writer::fill_bands` meets its contract. The invariant is `Writing`. Assumes nothing.
+-- `image_writer::fill_bands` meets its contract. The invariant is `Writing`. Assumes nothing.
 use borrow.Author.Needs.{needs}
-use Rattle.writer.proofs.Writing.{Writing, writing-start, count-within, band-room, writing-next, writing-end}
-use Rattle.writer.proofs.fill_bands.Statement.{statement}
-use Rattle.writer.proofs.fill_bands.Tie as tie
+use Rattle.image_writer.proofs.Writing.{Writing, writing-start, count-within, band-room, writing-next, writing-end}
+use Rattle.image_writer.proofs.fill_bands.Statement.{statement}
+use Rattle.image_writer.proofs.fill_bands.Tie as tie
 
 abbrev Inv-loop : tie.InvT-loop
 Inv-loop keys₀ out₀ counts first₀ n₀ b₀ keys out first n b = Writing keys₀ out₀ counts first₀ keys out first n b

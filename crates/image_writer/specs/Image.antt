@@ -8,7 +8,7 @@ use Rattle.format.specs.Seq.{total}
 use Rattle.format.specs.Page.{twoBytes}
 use Rattle.format.specs.Writer.{bandsOf, bandBytes, pagesOf, rootsIn}
 use Rattle.packing.specs.Run.{Prefixes, bandAbove, rootsAbove}
-use Rattle.writer.specs.declared.Plan.{Plan}
+use Rattle.image_writer.specs.declared.Plan.{Plan}
 
 -- the page count and the root count of each band, and the pages of all
 unfoldable pub countsOf : List ℕ → List ℕ

@@ -1,11 +1,11 @@
--- `writer::fill_band` meets its contract. The invariant is `Pages`. Assumes nothing.
+-- `image_writer::fill_band` meets its contract. The invariant is `Pages`. Assumes nothing.
 use Prim.Native.Nat.{_-_}
 use native.Mathlib.Omega.{arith}
 use borrow.Author.Needs.{needs}
 use lib.ListN.{length}
-use Rattle.writer.proofs.Band.{Pages, pages-start, run-room, end-within, end-after, number-within, page-room, T-grows, move-room, pages-next, pages-end}
-use Rattle.writer.proofs.fill_band.Statement.{statement}
-use Rattle.writer.proofs.fill_band.Tie as tie
+use Rattle.image_writer.proofs.Band.{Pages, pages-start, run-room, end-within, end-after, number-within, page-room, T-grows, move-room, pages-next, pages-end}
+use Rattle.image_writer.proofs.fill_band.Statement.{statement}
+use Rattle.image_writer.proofs.fill_band.Tie as tie
 
 abbrev Inv-loop : tie.InvT-loop
 Inv-loop keys₀ out₀ first head₀ number₀ from₀ keys out head number from = Pages keys₀ out₀ first keys out head number from

@@ -8,7 +8,7 @@ use native.Mathlib.Omega.{arith}
 use lib.ListN.{length, getD, take, drop, set, replicate, length-append, length-drop, take-append-drop}
 use lib.Seq.{take-at, take-all, take-suc, drop-at, drop-drop, length-take-le}
 use Rattle.format.specs.Page.{twoBytes}
-use Rattle.writer.specs.Image.{headerOf}
+use Rattle.image_writer.specs.Image.{headerOf}
 
 -- what is done, and then xs in place of the next k elements of l
 extended : (done l xs : List ℕ) (n k : ℕ) → length done ≡ n → take n (done ++ drop n l) ++ (xs ++ drop (n + k) (done ++ drop n l)) ≡ (done ++ xs) ++ drop (n + k) l

@@ -1,12 +1,12 @@
--- `writer::fill_header` meets its contract. The invariant is `Headed`. Assumes nothing.
+-- `image_writer::fill_header` meets its contract. The invariant is `Headed`. Assumes nothing.
 use Prim.Native.Nat.{_-_}
 use native.Mathlib.Omega.{arith}
 use borrow.Author.Needs.{needs}
 use denote.Ref.{now}
 use lib.ListN.{length-set}
-use Rattle.writer.proofs.Header.{Headed, headed-start, headed-next, headed-end}
-use Rattle.writer.proofs.fill_header.Statement.{statement}
-use Rattle.writer.proofs.fill_header.Tie as tie
+use Rattle.image_writer.proofs.Header.{Headed, headed-start, headed-next, headed-end}
+use Rattle.image_writer.proofs.fill_header.Statement.{statement}
+use Rattle.image_writer.proofs.fill_header.Tie as tie
 
 abbrev Inv-loop : tie.InvT-loop
 Inv-loop out₀ n counts i₀ out i = Headed out₀ counts out i
