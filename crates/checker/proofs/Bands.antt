@@ -21,9 +21,9 @@ use Rattle.format.proofs.Lists.{and-left, and-right, numbers-split, total-appen
 use Rattle.format.proofs.Read.{pages-within}
 use Rattle.format.proofs.Questions.{after-yes, after-no, next-turn, no-at-turn, yes-of-none}
 use Rattle.checker.specs.declared.page.Shape.{Shape}
-use Rattle.checker.specs.Refusal.{refusalOf}
+use Rattle.header.specs.Refusal.{refusalOf}
 use Rattle.checker.specs.Paged.{shapeQuestions, questionsAt, PageAsked, BandAt}
-use Rattle.checker.proofs.Asked.{asked-yes, asked-no}
+use Rattle.header.proofs.Asked.{asked-yes, asked-no}
 
 -- ---- what the pages before page i of band b ask of its T and B, and the nodes of the page before it: 241 before a band's first page
 
@@ -151,15 +151,6 @@ total-next f m n =
     ∙ ap total (map-append f (numbersFrom m n) ((m + n) ∷ []))
     ∙ total-append (map f (numbersFrom m n)) (f (m + n) ∷ [])
     ∙ omega arith
-
--- the pages before the next band
-pub pages-more : (img : List ℕ) (b : ℕ) → 1 ≤ b → pagesBefore img (b + 1) ≡ pagesBefore img b + pageCount img b
-unfolding pagesBefore
-pages-more img b h =
-    let e₁ : b + 1 - 1 ≡ b - 1 + 1 = omega arith in
-    let e₂ : 1 + (b - 1) ≡ b = omega arith in
-    let before : ℕ → ℕ = λ n. total (map (pageCount img) (numbersFrom 1 n)) in
-    ap before e₁ ∙ total-next (pageCount img) 1 (b - 1) ∙ ap (λ (n : ℕ). before (b - 1) + pageCount img n) e₂
 
 -- a no of turn i, where those before got a yes, is the first of all
 pub loop-no : (f : ℕ → List Question) (i n x : ℕ) (rs : List Question) → i < n → firstNo (flatMap f (upTo i)) ≡ none → (x ≡ 0 → ⊥) → refusalOf x ≡ firstNo (f i)

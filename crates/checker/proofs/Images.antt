@@ -11,10 +11,11 @@ use Rattle.format.specs.Seq.{total, numbersFrom, upTo}
 use Rattle.format.specs.Image.{bands, keyCount, pageCount, pagesBefore}
 use Rattle.format.specs.Question.{refused, returns, bandQuestions, firstNo, headerQuestions, imageQuestions, outcome, settle}
 use Rattle.format.specs.Answer.{check}
+use Rattle.format.proofs.Back.{pagesBefore-suc}
 use Rattle.format.proofs.Questions.{next-turn, yes-of-none}
-use Rattle.checker.specs.Refusal.{refusalOf}
+use Rattle.header.specs.Refusal.{refusalOf}
 use Rattle.checker.specs.Paged.{Sized, BandAt}
-use Rattle.checker.proofs.Bands.{loop-no, pages-more}
+use Rattle.checker.proofs.Bands.{loop-no}
 use Rattle.checker.proofs.Pages.{refused-first, passed-first}
 
 -- ---- the loop over the bands
@@ -52,7 +53,7 @@ module _ (img : List ℕ) where
         sized = p .sized;
         within = omega arith;
         so-far = rw (add-one passed) (next-turn (λ k. bandQuestions img (k + 1)) passed (p .so-far) (sym asked ∙ ap refusalOf z));
-        first-is = omega (arith, p .first-is, pages-more img (passed + 1) (omega arith));
+        first-is = omega (arith, p .first-is, pagesBefore-suc img (passed + 1) (omega arith), ap (pagesBefore img) (add-one (passed + 1)));
         few = omega (arith, p .few);
       }
 

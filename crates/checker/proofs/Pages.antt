@@ -12,9 +12,9 @@ use Rattle.format.specs.Page.{numberAt}
 use Rattle.format.specs.Question.{Question, firstNo}
 use Rattle.format.proofs.Questions.{after-yes, after-no}
 use Rattle.checker.specs.declared.page.Shape.{Shape}
-use Rattle.checker.specs.Refusal.{refusalOf}
+use Rattle.header.specs.Refusal.{refusalOf}
 use Rattle.checker.specs.Paged.{pairsAt, shapeQuestions, questionsAt, Shaped, PageAsked}
-use Rattle.checker.proofs.Asked.{asked-yes, asked-no}
+use Rattle.header.proofs.Asked.{asked-yes, asked-no}
 
 -- ---- the number of the first no
 

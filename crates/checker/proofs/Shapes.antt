@@ -23,10 +23,10 @@ use Rattle.nodes.proofs.Numbers.{Nodes}
 use Rattle.nodes.proofs.Gathered.{length-nodes, nodes-small}
 use Rattle.nodes.proofs.Used.{rest-empty-law}
 use Rattle.nodes.proofs.Calls.{counted, all-counted, none-found-empty, rest-found-empty}
-use Rattle.checker.specs.Refusal.{refusalOf}
+use Rattle.header.specs.Refusal.{refusalOf}
 use Rattle.checker.specs.declared.page.Shape.{Shape}
 use Rattle.checker.specs.Paged.{pairsAt, levels, shapeQuestions, Shaped}
-use Rattle.checker.proofs.Asked.{asked-yes, asked-no}
+use Rattle.header.proofs.Asked.{asked-yes, asked-no}
 
 -- ---- bounds
 

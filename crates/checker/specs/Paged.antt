@@ -12,7 +12,7 @@ use Rattle.format.specs.Page.{firstSubtries, levelsIn, nodeCount, numberAt, pai
 use Rattle.format.specs.Image.{bands, pageCount, pagesBefore}
 use Rattle.format.specs.Question.{Question, firstNo, isPositive, isZero}
 use Rattle.checker.specs.declared.page.Shape.{Shape}
-use Rattle.checker.specs.Refusal.{refusalOf}
+use Rattle.header.specs.Refusal.{refusalOf}
 
 -- the 240 pairs of the page at a place, and the four levels that r roots part them into
 abbrev pub pairsAt : List ℕ → ℕ → List ℕ

@@ -1,12 +1,12 @@
 // Questions 8 to 13 of a band, and of all eight bands.
-use crate::header::key_count;
-use crate::header::number;
-use crate::header::page_count;
-use crate::header::root_count;
 use crate::page::check_page;
 use format::OutLink;
 use format::Root;
 use format::cross;
+use header::key_count;
+use header::number;
+use header::page_count;
+use header::root_count;
 ghost use mathlib.Core.Path.{_≡_};
 ghost use mathlib.Core.Bool.{cond};
 ghost use mathlib.Core.List.{flatMap};
@@ -16,7 +16,7 @@ ghost use lib.ListN.{length};
 ghost use Rattle.format.specs.Page.{numberAt};
 ghost use Rattle.format.specs.Image.{bands};
 ghost use Rattle.format.specs.Question.{firstNo, bandQuestions, outLinksDue};
-ghost use Rattle.checker.specs.Refusal.{refusalOf};
+ghost use Rattle.header.specs.Refusal.{refusalOf};
 ghost use Rattle.checker.specs.Paged.{Sized, BandAt};
 
 // The first root after page `i` of a band with so many pages and roots, whose first page is page `first` of the image.

@@ -1,6 +1,5 @@
 // The checker: questions 1 to 13 of any bytes.
 mod band;
-pub mod header;
 mod page;
 
 use band::bands_refusal;

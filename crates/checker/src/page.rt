@@ -1,7 +1,7 @@
 // Questions 8 to 12 of one page.
-use crate::header::number;
 use format::OutLink;
 use format::Root;
+use header::number;
 ghost use mathlib.Core.Path.{_≡_};
 ghost use Prim.Native.Nat.{_+_, _≤_};
 ghost use lib.ListN.{length};

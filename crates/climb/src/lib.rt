@@ -59,7 +59,7 @@ pub fn key_at(image: &[u8], rank: usize) -> u32
     let mut unit = 1u64;
     let mut number = 8usize;
     while 0 < number {
-        first -= checker::header::page_count(image, number);
+        first -= header::page_count(image, number);
         let band = band_at(image, number, first);
         let head = head_above(image, band, below);
         let climbed = climb(image, head, below);

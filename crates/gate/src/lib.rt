@@ -92,24 +92,10 @@ pub fn scan(
             return Scanned::Refused(n);
         }
         Presence::Absent => {
-            return admit(
-                records,
-                checker::header::key_count(image),
-                false,
-                0,
-                time,
-                lockout,
-            );
+            return admit(records, header::key_count(image), false, 0, time, lockout);
         }
         Presence::Listed(rank) => {
-            return admit(
-                records,
-                checker::header::key_count(image),
-                true,
-                rank,
-                time,
-                lockout,
-            );
+            return admit(records, header::key_count(image), true, rank, time, lockout);
         }
     }
 }

@@ -51,8 +51,8 @@ pub fn band_at(image: &[u8], number: usize, first: usize) -> Band
     Band {
         number,
         first,
-        pages: checker::header::page_count(image, number),
-        roots: checker::header::root_count(image, number),
+        pages: header::page_count(image, number),
+        roots: header::root_count(image, number),
     }
 }
 
@@ -61,7 +61,7 @@ fn head_at(image: &[u8], band: Band, field: usize, index: usize) -> usize
     requires { ⌜ (Ready (now image)) × (BandRead (now image) band) × (field ≤ 2) × (index < pageCount (now image) (band .number)) ⌝ }
     ensures { λ r. ⌜ (r ≡ headAt (now (image .entry)) (band .number) field index) × (r < 65536) ⌝ }
 {
-    checker::header::number(image, 64 * (band.first + index) + field)
+    header::number(image, 64 * (band.first + index) + field)
 }
 
 // The last page of the band whose T, or for `field` 2 whose B, is at or below `x`. The first page's is.
@@ -102,9 +102,9 @@ fn next_b(image: &[u8], band: Band, index: usize) -> usize
         return head_at(image, band, 2, index + 1);
     }
     if band.number < 8 {
-        return checker::header::root_count(image, band.number + 1);
+        return header::root_count(image, band.number + 1);
     }
-    checker::header::key_count(image)
+    header::key_count(image)
 }
 
 // The head of page `index` of the band.

@@ -147,7 +147,7 @@ fn seek(image: &[u8], state: &mut [usize; 64], number: usize, root: Root)
             return;
         }
     }
-    let first = checker::header::first_page(image, number);
+    let first = header::first_page(image, number);
     let band = band_at(image, number, first);
     let found = spot_of(image, band, root, past(first, kept.at / 64));
     store(state, number, found);

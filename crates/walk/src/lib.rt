@@ -236,7 +236,7 @@ pub fn list_members(image: &[u8], rectangle: Rectangle, keys: &mut [u32]) -> usi
     requires { ⌜ Accepted (now image) ⌝ }
     ensures { λ r. ⌜ Listed (memberKeys (now (image .entry)) rectangle) (now (keys .entry)) 0 (now (keys .exit)) r ⌝ }
 {
-    if checker::header::key_count(image) == 0 {
+    if header::key_count(image) == 0 {
         return 0;
     }
     let mut state = [0usize; 64];
@@ -261,7 +261,7 @@ pub fn count_members(image: &[u8], rectangle: Rectangle) -> usize
     ensures { λ r. ⌜ (r ≡ length (memberKeys (now (image .entry)) rectangle)) × (r ≤ 4096) ⌝ }
 {
     match place_of(rectangle, 16, all_keys()) {
-        Place::Inside => checker::header::key_count(image),
+        Place::Inside => header::key_count(image),
         _ => {
             let mut scratch = [0u32; 1];
             list_members(image, rectangle, &mut scratch)

@@ -1,8 +1,8 @@
--- `checker::header::counts_fit` meets its contract. Assumes nothing.
-use Rattle.checker.proofs.Asked.{fit-none, fit-pages, fit-roots, fit-rest}
+-- `header::counts_fit` meets its contract. Assumes nothing.
+use Rattle.header.proofs.Asked.{fit-none, fit-pages, fit-roots, fit-rest}
 use borrow.Author.Needs.{needs}
-use Rattle.checker.proofs.header.counts_fit.Statement.{statement}
-use Rattle.checker.proofs.header.counts_fit.Tie as tie
+use Rattle.header.proofs.counts_fit.Statement.{statement}
+use Rattle.header.proofs.counts_fit.Tie as tie
 
 returns : tie.Need-returns
 returns c = fit-none _ _ (c .before .before .key-count .ensures .0) (c .before .before .before .before .pre) (c .before .if1 .taken) _ (c .all-zero .ensures)

@@ -1,8 +1,8 @@
--- `checker::header::page_count` meets its contract. Assumes nothing.
+-- `header::page_count` meets its contract. Assumes nothing.
 use borrow.Author.Needs.{needs}
 use Rattle.format.specs.Image.{pageCount}
-use Rattle.checker.proofs.header.page_count.Statement.{statement}
-use Rattle.checker.proofs.header.page_count.Tie as tie
+use Rattle.header.proofs.page_count.Statement.{statement}
+use Rattle.header.proofs.page_count.Tie as tie
 
 returns : tie.Need-returns
 unfolding pageCount

@@ -13,8 +13,8 @@ use Rattle.format.specs.Page.{numberAt}
 use Rattle.format.specs.Image.{bands, keyCount, pageCount, rootCount}
 use Rattle.format.specs.Question.{Question, firstNo, isZero, isPositive, markRight, countsFit, headerQuestions}
 use Rattle.format.proofs.Checked.{cond-yes, cond-no}
-use Rattle.checker.specs.Refusal.{countsPositive}
-use Rattle.checker.proofs.Turns.{every-yes, every-no, numbers-next, zero-counts}
+use Rattle.header.specs.Refusal.{countsPositive}
+use Rattle.header.proofs.Turns.{every-yes, every-no, numbers-next, zero-counts}
 
 -- ---- one question after another
 

@@ -1,8 +1,8 @@
--- `checker::header::root_count` meets its contract. Assumes nothing.
+-- `header::root_count` meets its contract. Assumes nothing.
 use borrow.Author.Needs.{needs}
 use Rattle.format.specs.Image.{rootCount}
-use Rattle.checker.proofs.header.root_count.Statement.{statement}
-use Rattle.checker.proofs.header.root_count.Tie as tie
+use Rattle.header.proofs.root_count.Statement.{statement}
+use Rattle.header.proofs.root_count.Tie as tie
 
 returns : tie.Need-returns
 unfolding rootCount

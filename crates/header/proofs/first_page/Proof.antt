@@ -1,13 +1,14 @@
--- `checker::header::first_page` meets its contract. The loop's invariant: the pages of the bands passed stand before. Assumes nothing.
+-- `header::first_page` meets its contract. The loop's invariant: the pages of the bands passed stand before. Assumes nothing.
 use mathlib.Core.Path.{_≡_, refl, ap}
 use Prim.Native.Nat.{ℕ, _+_, _-_, _*_, _≤_}
+use native.Mathlib.Numerals.{add-one}
 use native.Mathlib.Omega.{arith}
 use denote.Ref.{now}
 use Rattle.format.specs.Seq.{numbersFrom, total}
 use Rattle.format.specs.Image.{pageNumber, pagesBefore}
-use Rattle.checker.proofs.Bands.{pages-more}
-use Rattle.checker.proofs.header.first_page.Statement.{statement}
-use Rattle.checker.proofs.header.first_page.Tie as tie
+use Rattle.format.proofs.Back.{pagesBefore-suc}
+use Rattle.header.proofs.first_page.Statement.{statement}
+use Rattle.header.proofs.first_page.Tie as tie
 
 abbrev Inv-loop : tie.InvT-loop
 Inv-loop image band first₀ passed₀ first passed = (1 ≤ passed) × (passed ≤ band) × (first ≡ 1 + pagesBefore image passed) × (first ≤ 65536 * passed)
@@ -23,7 +24,7 @@ loop-again : tie.Need-loop-again Inv-loop μ-loop
 loop-again c =
     let image = now (c .before .before .before .before .args .image) in
     let passed : ℕ = c .before .before .loop .passed in
-    (omega arith, omega arith, omega (arith, pages-more image passed (omega arith)), omega arith)
+    (omega arith, omega arith, omega (arith, pagesBefore-suc image passed (omega arith), ap (pagesBefore image) (add-one passed)), omega arith)
 
 returns : tie.Need-returns Inv-loop μ-loop
 unfolding pageNumber

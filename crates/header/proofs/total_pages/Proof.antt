@@ -1,10 +1,10 @@
--- `checker::header::total_pages` meets its contract. Assumes nothing.
+-- `header::total_pages` meets its contract. Assumes nothing.
 use native.Mathlib.Omega.{arith}
 use Rattle.format.specs.Seq.{numbersFrom, total}
 use Rattle.format.specs.Image.{bands}
 use borrow.Author.Needs.{needs}
-use Rattle.checker.proofs.header.total_pages.Statement.{statement}
-use Rattle.checker.proofs.header.total_pages.Tie as tie
+use Rattle.header.proofs.total_pages.Statement.{statement}
+use Rattle.header.proofs.total_pages.Tie as tie
 
 returns : tie.Need-returns
 unfolding bands numbersFrom total

@@ -15,7 +15,7 @@ use Rattle.format.specs.Page.{numberAt}
 use Rattle.format.specs.Image.{pageCount, rootCount}
 use Rattle.format.specs.Question.{isZero}
 use Rattle.nodes.specs.Words.{halfAt, wordAt}
-use Rattle.checker.specs.Refusal.{countsZero}
+use Rattle.header.specs.Refusal.{countsZero}
 
 -- ---- every element passes a test
 

@@ -1,13 +1,13 @@
--- `checker::header::counts_positive` meets its contract. The loop's invariant: the counts passed are at least 1, so those left decide. Assumes nothing.
+-- `header::counts_positive` meets its contract. The loop's invariant: the counts passed are at least 1, so those left decide. Assumes nothing.
 use mathlib.Core.Path.{_≡_, refl, sym, ap, _∙_}
 use Prim.Native.Nat.{ℕ, _-_, _≤_}
 use native.Mathlib.Omega.{arith}
 use denote.Ref.{now}
 use Rattle.format.specs.Seq.{every, numbersFrom}
-use Rattle.checker.specs.Refusal.{countsPositive}
-use Rattle.checker.proofs.Asked.{positive-no, positive-next, few-pages, few-roots, some-counts}
-use Rattle.checker.proofs.header.counts_positive.Statement.{statement}
-use Rattle.checker.proofs.header.counts_positive.Tie as tie
+use Rattle.header.specs.Refusal.{countsPositive}
+use Rattle.header.proofs.Asked.{positive-no, positive-next, few-pages, few-roots, some-counts}
+use Rattle.header.proofs.counts_positive.Statement.{statement}
+use Rattle.header.proofs.counts_positive.Tie as tie
 
 abbrev Inv-loop : tie.InvT-loop
 Inv-loop image band₀ band = (band ≤ 9) × (every (countsPositive image) (numbersFrom 2 7) ≡ every (countsPositive image) (numbersFrom band (9 - band)))

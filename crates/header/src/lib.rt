@@ -1,4 +1,4 @@
-// The header's numbers, and questions 1 to 7. The other jobs read the header through these functions too.
+// The header's numbers, which every job reads through these functions, and questions 1 to 7.
 ghost use mathlib.Core.Path.{_≡_};
 ghost use mathlib.Core.List.{map};
 ghost use Prim.Native.Nat.{_+_, _-_, _%_, _≤_, _<_};
@@ -7,7 +7,7 @@ ghost use Rattle.format.specs.Seq.{every, numbersFrom, total};
 ghost use Rattle.format.specs.Page.{numberAt};
 ghost use Rattle.format.specs.Image.{bands, keyCount, pageCount, pageNumber, rootCount};
 ghost use Rattle.format.specs.Question.{isZero, markRight, countsFit, headerQuestions, firstNo};
-ghost use Rattle.checker.specs.Refusal.{refusalOf, countsPositive};
+ghost use Rattle.header.specs.Refusal.{refusalOf, countsPositive};
 
 fn wide(byte: u8) -> usize
     ensures { λ r. ⌜ (r ≡ byte) × (r < 256) ⌝ }

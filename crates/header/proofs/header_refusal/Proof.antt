@@ -1,13 +1,13 @@
--- `checker::header::header_refusal` meets its contract: at each return the questions before got a yes. Assumes nothing.
+-- `header::header_refusal` meets its contract: at each return the questions before got a yes. Assumes nothing.
 use mathlib.Core.Path.{sym}
 use borrow.Author.Tests.{not-true, not-false}
 use denote.Ref.{now}
 use Rattle.format.specs.Question.{firstNo, headerQuestions}
-use Rattle.checker.specs.Refusal.{refusalOf}
-use Rattle.checker.proofs.Asked.{Past, past-1, past-2, past-3, past-4, past-5, past-6, past-7, no-1, no-2, no-3, no-4, no-5, no-5-later, no-6, no-7}
+use Rattle.header.specs.Refusal.{refusalOf}
+use Rattle.header.proofs.Asked.{Past, past-1, past-2, past-3, past-4, past-5, past-6, past-7, no-1, no-2, no-3, no-4, no-5, no-5-later, no-6, no-7}
 use borrow.Author.Needs.{needs}
-use Rattle.checker.proofs.header.header_refusal.Statement.{statement}
-use Rattle.checker.proofs.header.header_refusal.Tie as tie
+use Rattle.header.proofs.header_refusal.Statement.{statement}
+use Rattle.header.proofs.header_refusal.Tie as tie
 
 past1 : (c : tie.Else1) → Past 1 (now (c .before .before .args .image))
 past1 c = past-1 _ (c .if1 .left)

@@ -1,9 +1,9 @@
--- `checker::header::mark_right` meets its contract. Assumes nothing.
+-- `header::mark_right` meets its contract. Assumes nothing.
 use borrow.Author.Tests.{eq-eqb, ne-eqb}
 use Rattle.format.specs.Question.{markRight}
 use borrow.Author.Needs.{needs}
-use Rattle.checker.proofs.header.mark_right.Statement.{statement}
-use Rattle.checker.proofs.header.mark_right.Tie as tie
+use Rattle.header.proofs.mark_right.Statement.{statement}
+use Rattle.header.proofs.mark_right.Tie as tie
 
 returns : tie.Need-returns
 unfolding markRight

@@ -1,11 +1,11 @@
--- `checker::header::number` meets its contract. Assumes nothing.
+-- `header::number` meets its contract. Assumes nothing.
 use mathlib.Core.Path.{ap₂}
 use Prim.Native.Nat.{ℕ, _+_, _*_}
 use native.Mathlib.Omega.{arith}
 use Rattle.format.specs.Page.{numberAt}
 use borrow.Author.Needs.{needs}
-use Rattle.checker.proofs.header.number.Statement.{statement}
-use Rattle.checker.proofs.header.number.Tie as tie
+use Rattle.header.proofs.number.Statement.{statement}
+use Rattle.header.proofs.number.Tie as tie
 
 returns : tie.Need-returns
 unfolding numberAt

@@ -1,8 +1,8 @@
--- `checker::header::key_count` meets its contract. Assumes nothing.
+-- `header::key_count` meets its contract. Assumes nothing.
 use borrow.Author.Needs.{needs}
 use Rattle.format.specs.Image.{keyCount}
-use Rattle.checker.proofs.header.key_count.Statement.{statement}
-use Rattle.checker.proofs.header.key_count.Tie as tie
+use Rattle.header.proofs.key_count.Statement.{statement}
+use Rattle.header.proofs.key_count.Tie as tie
 
 returns : tie.Need-returns
 unfolding keyCount

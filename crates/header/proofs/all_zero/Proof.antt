@@ -1,4 +1,4 @@
--- `checker::header::all_zero` meets its contract. The loop's invariant: the bytes passed are zero, so those left decide. Assumes nothing.
+-- `header::all_zero` meets its contract. The loop's invariant: the bytes passed are zero, so those left decide. Assumes nothing.
 use mathlib.Core.Path.{_≡_, refl, sym, ap, _∙_}
 use mathlib.Core.Bool.{_&&_}
 use Prim.Native.Nat.{ℕ, _+_, _-_, _%_, _≤_}
@@ -9,9 +9,9 @@ use lib.Dec.{eqb}
 use lib.ListN.{take, drop}
 use Rattle.format.specs.Seq.{every}
 use Rattle.format.specs.Question.{isZero}
-use Rattle.checker.proofs.Turns.{words-next}
-use Rattle.checker.proofs.header.all_zero.Statement.{statement}
-use Rattle.checker.proofs.header.all_zero.Tie as tie
+use Rattle.header.proofs.Turns.{words-next}
+use Rattle.header.proofs.all_zero.Statement.{statement}
+use Rattle.header.proofs.all_zero.Tie as tie
 
 abbrev Inv-loop : tie.InvT-loop
 Inv-loop bytes from to i₀ i =
