@@ -78,22 +78,25 @@ byte-digits x h =
     let e₁ : x / 4 / 4 % 4 ≡ x / 16 % 4 = omega arith in
     λ i. e₀ i ∷ e₁ i ∷ x / 4 % 4 ∷ x % 4 ∷ []
 
+-- one bit of the last digit turned on
+last-raised : (n x y : ℕ) → y / 4 ≡ x / 4 → bits (y % 4) ≡ bits (x % 4) + 1 → Raised (digits (suc n) x) (digits (suc n) y)
+unfolding digits
+last-raised n x y e b = rw e (raised-in (digits n (x / 4)) (x % 4 ∷ []) (y % 4 ∷ []) (raised-head (x % 4) (y % 4) [] b))
+
+-- one bit of the digits before the last turned on
+before-raised : (n x y z : ℕ) → y / 4 ≡ z → y % 4 ≡ x % 4 → Raised (digits n (x / 4)) (digits n z) → Raised (digits (suc n) x) (digits (suc n) y)
+unfolding digits
+before-raised n x y z e f r = rw (e, f) (raised-before (digits n (x / 4)) (digits n z) (x % 4 ∷ []) r)
+
 -- one bit of a number turned on
 pub raised-digits : (n k x : ℕ) → k < 2 * n → x / 2 ^ k % 2 ≡ 0 → Raised (digits n x) (digits n (x + 2 ^ k))
-unfolding digits
 raised-digits zero k x h z = absurd (omega arith)
-raised-digits (suc n) zero x h z =
-    let e : (x + 1) / 4 ≡ x / 4 = omega arith in
-    rw e (raised-in (digits n (x / 4)) _ _ (raised-head (x % 4) ((x + 1) % 4) [] (second-on (x % 4) ((x + 1) % 4) (omega arith) (omega arith))))
-raised-digits (suc n) (suc zero) x h z =
-    let e : (x + 2) / 4 ≡ x / 4 = omega arith in
-    rw e (raised-in (digits n (x / 4)) _ _ (raised-head (x % 4) ((x + 2) % 4) [] (first-on (x % 4) ((x + 2) % 4) (omega arith))))
+raised-digits (suc n) zero x h z = last-raised n x (x + 1) (omega arith) (second-on (x % 4) ((x + 1) % 4) (omega arith) (omega arith))
+raised-digits (suc n) (suc zero) x h z = last-raised n x (x + 2) (omega arith) (first-on (x % 4) ((x + 2) % 4) (omega arith))
 raised-digits (suc n) (suc (suc k)) x h z =
     let p : 2 ^ suc (suc k) ≡ 4 * 2 ^ k = pow-succ' 2 (suc k) ∙ ap (2 *_) (pow-succ' 2 k) ∙ omega arith in
     let q : x / 4 / 2 ^ k % 2 ≡ 0 = ap (_% 2) (div-div-eq-div-mul x 4 (2 ^ k) ∙ ap (λ (m : ℕ). x / m) (sym p)) ∙ z in
-    let e : (x + 2 ^ suc (suc k)) / 4 ≡ x / 4 + 2 ^ k = omega arith in
-    let f : (x + 2 ^ suc (suc k)) % 4 ≡ x % 4 = omega arith in
-    rw (e, f) (raised-before (digits n (x / 4)) (digits n (x / 4 + 2 ^ k)) (x % 4 ∷ []) (raised-digits n k (x / 4) (omega arith) q))
+    before-raised n x (x + 2 ^ suc (suc k)) (x / 4 + 2 ^ k) (omega arith) (omega arith) (raised-digits n k (x / 4) (omega arith) q)
 
 -- it stays within as many bits
 pub raised-small : (n k x : ℕ) → k < n → x < 2 ^ n → x / 2 ^ k % 2 ≡ 0 → x + 2 ^ k < 2 ^ n
