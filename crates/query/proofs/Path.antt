@@ -16,11 +16,12 @@ use Rattle.format.proofs.Levels.{prefixesAt, prefixes-keys}
 use Rattle.format.proofs.Walk.{page-is, root-is, roots-count}
 use Rattle.pages.specs.declared.Band.{Band}
 use Rattle.pages.specs.declared.Page.{Page}
+use Rattle.query.specs.declared.Presence.{Presence}
 use Rattle.query.specs.declared.way.Way.{Way}
 use Rattle.format.specs.declared.OutLink.{OutLink}
 use Rattle.pages.specs.Page.{Ready, BandRead, PageRead}
 use Rattle.pages.specs.Prefix.{AtPrefix}
-use Rattle.query.specs.Way.{WayRight}
+use Rattle.query.specs.Way.{WayRight, FoundRight}
 use Rattle.pages.proofs.Pages.{bytes, checked}
 use Rattle.pages.proofs.Counts.{next-first, pages-few}
 
@@ -73,6 +74,10 @@ path-start {img} {key} r h =
 pub way-out : {img : List ℕ} {b number : ℕ} (key : ℕ) {way : Way} {link : OutLink} → WayRight img b key way → way ≡ Way.Out link → b ≡ number → AtPrefix img (4 * number) (link .0) (key / 2 ^ (32 - 4 * number))
 way-out {img} {b} {number} key {way} {link} r e f =
     subst (λ (n : ℕ). AtPrefix img (4 * n) (link .0) (key / 2 ^ (32 - 4 * n))) f (subst (WayRight img b key) e r)
+
+-- an off bit on a key's way: it is absent
+pub way-off : (img : List ℕ) (b key : ℕ) {way : Way} {answer : Presence} {pages : List ℕ} → WayRight img b key way → way ≡ Way.Off → answer ≡ Presence.Absent → pages ≡ replicate 8 0 → FoundRight img key answer pages
+way-off img b key {way} {answer} {pages} r e a p = subst (λ (x : Presence). FoundRight img key x pages) (sym a) (subst (WayRight img b key) e r, p)
 
 module _ {img : List ℕ} {key : ℕ} {pages : List ℕ} {link first number : ℕ} (s : Path img key pages link first number) where
   -- in a band: the root is one of the band's

@@ -8,6 +8,7 @@ ghost use Rattle.pages.specs.Prefix.{AtPrefix};
 ghost use Rattle.query.specs.Way.{WayRight, FoundRight};
 use crate::Found;
 use crate::Presence;
+use crate::no_pages;
 use format::OutLink;
 use format::Root;
 use format::cross;
@@ -96,10 +97,7 @@ pub fn path(image: &[u8], key: u32) -> Found
         let head = head_of_root(image, band, root);
         let way = follow(image, head, root, key);
         let Way::Out(next) = way else {
-            return Found {
-                answer: Presence::Absent,
-                pages: [0u32; 8],
-            };
+            return no_pages(Presence::Absent);
         };
         pages[number - 1] = head.number as u32;
         link = next;

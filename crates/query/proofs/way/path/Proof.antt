@@ -1,14 +1,13 @@
 -- `query::way::path` meets its contract. The loop's invariant: the out-link that leads to the key's root in the band, and the pages so far. Assumes nothing.
-use mathlib.Core.Path.{refl, ap, subst, _∙_}
+use mathlib.Core.Path.{ap, _∙_}
 use Prim.Native.Nat.{_-_}
 use native.Mathlib.Omega.{arith}
 use borrow.Author.Needs.{needs}
 use Rattle.format.specs.Image.{rootCount}
-use Rattle.query.specs.Way.{WayRight}
 use Rattle.pages.proofs.Pages.{few-pages}
 use Rattle.pages.proofs.Heads.{opened-read}
 use Rattle.pages.proofs.Counts.{page-number-small}
-use Rattle.query.proofs.Path.{Path, path-start, path-root, path-at, path-next, way-out, path-end, path-rank, first-small}
+use Rattle.query.proofs.Path.{Path, path-start, path-root, path-at, path-next, way-out, way-off, path-end, path-rank, first-small}
 use Rattle.query.proofs.way.path.Statement.{statement}
 use Rattle.query.proofs.way.path.Tie as tie
 
@@ -40,8 +39,10 @@ follow-requires c κs =
 
 returns : tie.Need-returns Inv-loop μ-loop
 returns c =
-    let at = c .before .before in
-    (subst (WayRight _ _ _) (c .enum-told .given .1) (at .follow .ensures), refl)
+    let f = c .before .before .before in
+    let a = f .before .before .before .before .before .before .before .args in
+    let n = c .no-pages .ensures in
+    way-off (a .image .now) (f .before .head-of-root .result .band) (a .key) (f .follow .ensures) (c .before .enum-told .given .1) (n .0) (n .1)
 
 cast-pages : tie.Need-cast-pages Inv-loop μ-loop
 cast-pages c =
@@ -76,6 +77,7 @@ path-spec =
     follow-requires
     (λ c. search needs)
     (λ c. search needs)
+    (λ c κs. search needs)
     returns
     cast-pages
     (λ c. omega arith)
