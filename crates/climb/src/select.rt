@@ -6,17 +6,12 @@ ghost use lib.Count.{ones};
 ghost use lib.ListN.{getD};
 ghost use Rattle.nodes.specs.Words.{countsBefore};
 ghost use Rattle.climb.specs.Select.{Halved, Selected, SideOf};
+use nodes::wide;
 
 // A part of a word: the place of its lowest bit, counted from the word's lowest, and the on bits of the part to pass over.
 struct Part {
     low: usize,
     left: usize,
-}
-
-fn wide(x: u16) -> usize
-    ensures { λ r. ⌜ r ≡ x ⌝ }
-{
-    x as usize
 }
 
 // The sums of neighbours: of each two fields of `width` bits, where `lower` covers every lower one.

@@ -21,10 +21,18 @@ fn ones_of(w: u64) -> u16
     u64::count_ones(w) as u16
 }
 
-fn wide(x: u16) -> usize
+// A count as a number of the width of a place.
+pub fn wide(x: u16) -> usize
     ensures { λ r. ⌜ (r ≡ x) × (r < 65536) ⌝ }
 {
     x as usize
+}
+
+// The number of set bits of `w`, as a number of the width of a place.
+pub fn ones_in(w: u64) -> usize
+    ensures { λ r. ⌜ (r ≡ ones w) × (r ≤ 64) ⌝ }
+{
+    wide(ones_of(w))
 }
 
 // Four bytes as one number, the first the highest.
@@ -93,7 +101,7 @@ pub fn on_bits_before<'a>(word: &'a [u64; 9], before: &'a [u16; 9], n: usize) ->
     let place = n + 16;
     let j = place / 32;
     let passed = before[j];
-    wide(passed) + wide(ones_of((word[j] >> 1) >> (63 - 2 * (place % 32))))
+    wide(passed) + ones_in((word[j] >> 1) >> (63 - 2 * (place % 32)))
 }
 
 // The on bits of all nodes.

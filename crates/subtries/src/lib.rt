@@ -21,9 +21,9 @@ use crate::state::load;
 use crate::state::move_root;
 use crate::state::move_starts;
 use crate::state::store;
-use crate::word::ones_of;
 use format::OutLink;
 use format::Root;
+use nodes::ones_in;
 use pages::Band;
 use pages::band_at;
 use pages::page_near;
@@ -109,7 +109,7 @@ fn advance(image: &[u8], state: &mut [usize; 64], number: usize) -> Subtrie
     let two = next_level(bytes, second, one, 2);
     let four = next_level(bytes, third, two.bits, 4);
     let last = next_level(bytes, fourth, four.bits, 8);
-    let out = link.0 + ones_of(last.bits as u64);
+    let out = link.0 + ones_in(last.bits as u64);
     move_starts(
         state,
         number,

@@ -14,13 +14,13 @@ use Rattle.nodes.proofs.on_bits_before.Tie as tie
 returns : tie.Need-returns
 unfolding onesBefore
 returns c =
-    let a = c .before .before .before .before .before .args in
+    let a = c .before .before .before .before .args in
     let j : ℕ = (a .n + 16) / 32 in
     let k : ℕ = (a .n + 16) % 32 in
     let w : ℕ = getD (now (a .word)) j 0 in
     let e : 1 + (63 - 2 * k) ≡ 64 - 2 * k = omega arith in (
-      ap₂ _+_ (c .before .before .before .wide .ensures .0)
-          (c .wide2 .ensures .0 ∙ c .before .ones-of .ensures .0 ∙ ap ones (shr-shr w 1 (63 - 2 * k) ∙ ap (λ (x : ℕ). w / 2 ^ x) e)),
+      ap₂ _+_ (c .before .before .wide .ensures .0)
+          (c .ones-in .ensures .0 ∙ ap ones (shr-shr w 1 (63 - 2 * k) ∙ ap (λ (x : ℕ). w / 2 ^ x) e)),
       omega arith,
     )
 
@@ -37,7 +37,6 @@ on-bits-before-spec =
     (λ c. search needs)
     (λ c. search needs)
     (λ c. search needs)
-    (λ c κs. search needs)
     (λ c κs. search needs)
     (λ c. search needs)
     returns)

@@ -154,7 +154,7 @@ add-out-2 : tie.Need-add-out-2
 add-out-2 c =
     let q = c .before .before .before .before .before .before .before .before .before .before .before .before .before .before in
     let p = q .before .before .before .pre in
-    omega (arith, link-small (p .0) (p .1) (p .2) (here q), c .before .ones-of .ensures .1)
+    omega (arith, link-small (p .0) (p .1) (p .2) (here q), c .before .ones-in .ensures .1)
 
 returns-2 : tie.Need-returns-2
 returns-2 c =
@@ -170,7 +170,7 @@ returns-2 c =
     let e₂ = l₁ .next-level .ensures in
     let e₃ = l₂ .next-level2 .ensures in
     let e₄ = l₃ .next-level3 .ensures in
-    let o = c .before .before .before .ones-of .ensures .0 in (
+    let o = c .before .before .before .ones-in .ensures .0 in (
       same-root q (subtrie-read (p .0) (p .1) (p .2) (here q) e e₁ (e₂ .0) (e₃ .0) (e₄ .0)),
       spots-move (p .3) _ (p .1) (p .2)
           (next-spot (p .0) (p .1) (p .2) (here q) e e₁ (e₂ .0) (e₃ .0) (e₄ .0)

@@ -15,14 +15,14 @@ word-of-requires c κs = (omega (arith, none-first (c .args .word .now) (c .pre 
 select-requires : tie.Need-select-requires
 select-requires c κs =
     let j = c .before .before .before .word-of .ensures in
-    omega (arith, c .before .wide .ensures, left-few (c .before .before .before .before .args .word .now) (c .before .before .before .before .pre .0) _ (j .1) (j .2))
+    omega (arith, c .before .wide .ensures .0, left-few (c .before .before .before .before .args .word .now) (c .before .before .before .before .pre .0) _ (j .1) (j .2))
 
 -- the bit in its word
 selected : (c : tie.After-select) → let a = c .before .before .before .before .before .args in let j = c .before .before .before .before .word-of .result in
     Selected (getD (a .word .now) j 0) (a .number - getD (a .before .now) j 0) (c .select .result)
 selected c =
     let a = c .before .before .before .before .before .args in
-    subst (λ n. Selected (getD (a .word .now) (c .before .before .before .before .word-of .result) 0) (a .number - n) (c .select .result)) (c .before .before .wide .ensures) (c .select .ensures)
+    subst (λ n. Selected (getD (a .word .now) (c .before .before .before .before .word-of .result) 0) (a .number - n) (c .select .result)) (c .before .before .wide .ensures .0) (c .select .ensures)
 
 sub-result : tie.Need-sub-result
 sub-result c =

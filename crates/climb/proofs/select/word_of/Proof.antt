@@ -16,7 +16,7 @@ abbrev μ-loop : tie.MeasureT-loop
 μ-loop before number j₀ next₀ j next = 8 - j
 
 loop-holds : tie.Need-loop-holds Inv-loop μ-loop
-loop-holds c = let p = c .before .before .pre in (omega arith, p .0, c .wide .ensures, p .1)
+loop-holds c = let p = c .before .before .pre in (omega arith, p .0, c .wide .ensures .0, p .1)
 
 -- a word that is passed is not the last
 more : (c : tie.In-loop Inv-loop μ-loop) → c .before .loop .j + 1 < 8
@@ -32,7 +32,7 @@ loop-again : tie.Need-loop-again Inv-loop μ-loop
 loop-again c =
     let l = c .before .before in
     let i = l .before .loop .inv in
-    (more l, omega (arith, i .2, l .loop-test .taken), c .wide2 .ensures, i .3)
+    (more l, omega (arith, i .2, l .loop-test .taken), c .wide2 .ensures .0, i .3)
 
 returns : tie.Need-returns Inv-loop μ-loop
 returns c = let i = c .before .loop .inv in (i .0, i .1, omega (arith, i .2, c .loop-test .left))
