@@ -1,6 +1,7 @@
 // A plain reader of a sorted array of keys.
 ghost use Prim.Native.Nat.{_≤_};
 ghost use lib.ListN.{length};
+use format::Range;
 use format::Rectangle;
 
 // `unit` where the number is odd, else 0.
@@ -89,4 +90,21 @@ pub fn count_inside(keys: &[u32], n: usize, rectangle: Rectangle) -> usize
         i += 1;
     }
     members
+}
+
+pub fn rectangle(low_holder: u16, high_holder: u16, low_slot: u16, high_slot: u16) -> Rectangle {
+    Rectangle {
+        holders: Range {
+            low: low_holder,
+            high: high_holder,
+        },
+        slots: Range {
+            low: low_slot,
+            high: high_slot,
+        },
+    }
+}
+
+pub fn whole_square() -> Rectangle {
+    rectangle(0, 65535, 0, 65535)
 }
