@@ -1,6 +1,14 @@
 // Lists and images that the cases start from, and ways to look at buffers.
 use writer::Written;
 
+// The image of the empty list.
+pub fn no_key() -> [u8; 64] {
+    let mut image = [0u8; 64];
+    let keys = [0u32; 1];
+    writer::write_keys(&keys[0..0], &mut image);
+    image
+}
+
 // The image of key 0.
 pub fn one_key() -> [u8; 576] {
     let mut image = [0u8; 576];
@@ -134,36 +142,6 @@ pub fn all_numbers(numbers: &[u32], x: u32) -> bool {
     let mut i: usize = 0;
     while i < numbers.len() {
         if numbers[i] != x {
-            return false;
-        }
-        i += 1;
-    }
-    true
-}
-
-// Whether the first numbers are those of a list.
-pub fn starts_with(numbers: &[u32], list: &[u32]) -> bool {
-    let mut i: usize = 0;
-    while i < list.len() {
-        if numbers.len() <= i {
-            return false;
-        }
-        if numbers[i] != list[i] {
-            return false;
-        }
-        i += 1;
-    }
-    true
-}
-
-// Whether the first bytes are those of a text.
-pub fn starts_with_bytes(bytes: &[u8], text: &[u8]) -> bool {
-    let mut i: usize = 0;
-    while i < text.len() {
-        if bytes.len() <= i {
-            return false;
-        }
-        if bytes[i] != text[i] {
             return false;
         }
         i += 1;

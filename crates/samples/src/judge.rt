@@ -1,17 +1,16 @@
 // What every job says of an image.
 use crate::images::all_numbers;
-use crate::images::starts_with_bytes;
 use crate::images::two_pages_with;
 use crate::images::with_byte;
 use crate::say::Tally;
 use crate::say::case;
 use checker::Checked;
-use format::Range;
-use format::Rectangle;
 use gate::Scanned;
 use query::ByRank;
 use query::Members;
 use query::Presence;
+use testing::starts_with_bytes;
+use testing::whole_square;
 
 // The checker's number, or 0.
 pub fn refusal(image: &[u8]) -> u8 {
@@ -60,23 +59,6 @@ pub fn lookup_refusal(image: &[u8]) -> u8 {
         Presence::Absent => 0,
         Presence::Refused(n) => n,
     }
-}
-
-pub fn rectangle(low_holder: u16, high_holder: u16, low_slot: u16, high_slot: u16) -> Rectangle {
-    Rectangle {
-        holders: Range {
-            low: low_holder,
-            high: high_holder,
-        },
-        slots: Range {
-            low: low_slot,
-            high: high_slot,
-        },
-    }
-}
-
-pub fn whole_square() -> Rectangle {
-    rectangle(0, 65535, 0, 65535)
 }
 
 // Whether a listing is refused with `n` and leaves the buffer as lent.
@@ -136,34 +118,34 @@ pub fn all_refuse(image: &[u8], n: u8) -> bool {
 }
 
 // A case: every job refuses the first `size` bytes with `n`.
-pub fn refuses_part(tally: Tally, name: &[u8], image: &[u8], size: usize, n: u8) -> Tally {
+pub fn refuses_part(tally: Tally, names: &[u8], image: &[u8], size: usize, n: u8) -> Tally {
     if image.len() < size {
-        return case(tally, name, false);
+        return case(tally, names, false);
     }
-    case(tally, name, all_refuse(&image[0..size], n))
+    case(tally, names, all_refuse(&image[0..size], n))
 }
 
 // A case: every job refuses the image with `n`.
-pub fn refuses(tally: Tally, name: &[u8], image: &[u8], n: u8) -> Tally {
-    case(tally, name, all_refuse(image, n))
+pub fn refuses(tally: Tally, names: &[u8], image: &[u8], n: u8) -> Tally {
+    case(tally, names, all_refuse(image, n))
 }
 
 // A case: every job refuses the image of key 0 with another byte at a place.
-pub fn refuses_byte(tally: Tally, name: &[u8], at: usize, byte: u8, n: u8) -> Tally {
+pub fn refuses_byte(tally: Tally, names: &[u8], at: usize, byte: u8, n: u8) -> Tally {
     let image = with_byte(at, byte);
-    refuses(tally, name, &image, n)
+    refuses(tally, names, &image, n)
 }
 
 // The same of the image of 61 subtries in two pages.
-pub fn refuses_two(tally: Tally, name: &[u8], at: usize, byte: u8, n: u8) -> Tally {
+pub fn refuses_two(tally: Tally, names: &[u8], at: usize, byte: u8, n: u8) -> Tally {
     let image = two_pages_with(at, byte);
-    refuses(tally, name, &image, n)
+    refuses(tally, names, &image, n)
 }
 
 // A case: the checker accepts the first `size` bytes.
-pub fn accepts(tally: Tally, name: &[u8], image: &[u8], size: usize) -> Tally {
+pub fn accepts(tally: Tally, names: &[u8], image: &[u8], size: usize) -> Tally {
     if image.len() < size {
-        return case(tally, name, false);
+        return case(tally, names, false);
     }
-    case(tally, name, refusal(&image[0..size]) == 0)
+    case(tally, names, refusal(&image[0..size]) == 0)
 }

@@ -15,6 +15,7 @@ fn main() {
     tally = plates::printed(tally);
     tally = refusals::headers(tally);
     tally = refusals::counts(tally);
+    tally = refusals::empties(tally);
     tally = refusals::heads(tally);
     tally = refusals::nodes(tally);
     tally = refusals::packed(tally);
@@ -24,6 +25,7 @@ fn main() {
     tally = questions::rectangles(tally);
     tally = questions::ranks(tally);
     tally = gates::lockouts(tally);
+    tally = gates::wrong_lengths(tally);
     tally = gates::limits(tally);
     say::count(tally);
 }

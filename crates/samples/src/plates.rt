@@ -1,17 +1,18 @@
 // The plates without a star, and packings at their edges.
 use crate::images::five_nodes;
 use crate::images::length_of;
+use crate::images::no_key;
 use crate::images::number;
 use crate::images::part_is;
-use crate::images::starts_with;
-use crate::images::starts_with_bytes;
 use crate::images::steps;
 use crate::images::two_keys;
 use crate::judge::accepts;
 use crate::judge::member_count;
-use crate::judge::whole_square;
 use crate::say::Tally;
 use crate::say::case;
+use testing::starts_with;
+use testing::starts_with_bytes;
+use testing::whole_square;
 
 // Whether page `i` of band 8 of the image of keys 0 to 4095, whose first is page 8, has T 16 i and B 256 i.
 fn is_head(image: &[u8], i: u32) -> bool {
@@ -47,64 +48,40 @@ fn dense_image() -> [u8; 1600] {
 
 // Whether the listing of the first 1,536 bytes is the list of keys 0 to 4095, and no place after it is touched.
 fn is_dense(image: &[u8]) -> bool {
-    let mut listed = [77u32; 4097];
     if image.len() < 1536 {
         return false;
     }
+    let mut listed = [77u32; 4097];
     let members = member_count(query::list(&image[0..1536], whole_square(), &mut listed));
     if members != 4096 {
         return false;
     }
-    if listed[4096] != 77 {
-        return false;
-    }
-    listed[4096] = 4096;
-    starts_with(&listed, &steps(1))
+    let mut expected = steps(1);
+    expected[4096] = 77;
+    starts_with(&listed, &expected)
 }
 
 // Keys 0 to 4095.
 fn dense_cases(tally: Tally, image: &[u8]) -> Tally {
-    let mut t = case(
-        tally,
-        b"keys 0 to 4095: 1,536 bytes, and no byte after them is touched",
-        part_is(image, 1536, 1600, 0xee),
-    );
-    t = case(
-        t,
-        b"keys 0 to 4095: band 7 has one page",
-        number(image, 32) == 1,
-    );
-    t = case(
-        t,
-        b"keys 0 to 4095: band 7 has 16 roots",
-        number(image, 34) == 16,
-    );
-    t = case(
-        t,
-        b"keys 0 to 4095: band 7 has 240 nodes, all 11",
-        part_is(image, 452, 512, 0xff),
-    );
-    t = case(
-        t,
-        b"keys 0 to 4095: band 8 has 16 pages",
-        number(image, 36) == 16,
-    );
-    t = case(
-        t,
-        b"keys 0 to 4095: band 8 has 256 roots",
-        number(image, 38) == 256,
-    );
-    t = case(
-        t,
-        b"keys 0 to 4095: T 0, 16 to 240 and B 0, 256 to 3,840",
-        are_heads(image),
-    );
-    t = accepts(t, b"keys 0 to 4095: accepted", image, 1536);
-    case(
-        t,
-        b"keys 0 to 4095: the listing is the list",
-        is_dense(image),
-    )
+    let names: &[u8] = b"\
+        keys 0 to 4095: 1,536 bytes, and no byte after them is touched\n\
+        keys 0 to 4095: band 7 has one page\n\
+        keys 0 to 4095: band 7 has 16 roots\n\
+        keys 0 to 4095: band 7 has 240 nodes, all 11\n\
+        keys 0 to 4095: band 8 has 16 pages\n\
+        keys 0 to 4095: band 8 has 256 roots\n\
+        keys 0 to 4095: T 0, 16 to 240 and B 0, 256 to 3,840\n\
+        keys 0 to 4095: accepted\n\
+        keys 0 to 4095: the listing is the list\n";
+    let mut t = case(tally, names, part_is(image, 1536, 1600, 0xee));
+    t = case(t, names, number(image, 32) == 1);
+    t = case(t, names, number(image, 34) == 16);
+    t = case(t, names, part_is(image, 452, 512, 0xff));
+    t = case(t, names, number(image, 36) == 16);
+    t = case(t, names, number(image, 38) == 256);
+    t = case(t, names, are_heads(image));
+    t = accepts(t, names, image, 1536);
+    case(t, names, is_dense(image))
 }
 
 pub fn dense(tally: Tally) -> Tally {
@@ -112,57 +89,45 @@ pub fn dense(tally: Tally) -> Tally {
     dense_cases(tally, &image)
 }
 
-// Whether the image of the first `n` keys has these counts of pages and roots in band 8, and this T and B in its second page there, page 9.
+// Whether the image has these counts of pages and roots in band 8, and this T and B in its second page there, page 9.
+fn has_counts(image: &[u8], pages: u32, roots: u32, root: u32, link: u32) -> bool {
+    if number(image, 36) != pages {
+        return false;
+    }
+    if number(image, 38) != roots {
+        return false;
+    }
+    if number(image, 576) != root {
+        return false;
+    }
+    number(image, 578) == link
+}
+
+// The same for the image of the first `n` keys.
 fn is_parted(keys: &[u32], n: usize, pages: u32, roots: u32, root: u32, link: u32) -> bool {
-    let mut image = [0u8; 1024];
     if keys.len() < n {
         return false;
     }
+    let mut image = [0u8; 1024];
     writer::write_keys(&keys[0..n], &mut image);
-    if number(&image, 36) != pages {
-        return false;
-    }
-    if number(&image, 38) != roots {
-        return false;
-    }
-    if number(&image, 576) != root {
-        return false;
-    }
-    number(&image, 578) == link
+    has_counts(&image, pages, roots, root, link)
 }
 
 // Subtries of 4 and of 15 nodes in band 8. Where there is no page 9 the buffer stays 0 there.
 fn packing_cases(tally: Tally, four: &[u32], five: &[u32], run: &[u32]) -> Tally {
-    let mut t = case(
-        tally,
-        b"60 subtries of 4 nodes: one page",
-        is_parted(four, 60, 1, 60, 0, 0),
-    );
-    t = case(
-        t,
-        b"61 subtries of 4 nodes: 60 and 1",
-        is_parted(four, 61, 2, 61, 60, 60),
-    );
-    t = case(
-        t,
-        b"59 subtries of 4 nodes and one of 5: 59 and 1",
-        is_parted(five, 61, 2, 60, 59, 59),
-    );
-    t = case(
-        t,
-        b"16 subtries of 15 nodes: one page",
-        is_parted(run, 256, 1, 16, 0, 0),
-    );
-    t = case(
-        t,
-        b"17 subtries of 15 nodes: 16 and 1",
-        is_parted(run, 272, 2, 17, 16, 256),
-    );
-    case(
-        t,
-        b"16 subtries of 15 nodes and one of 4: 16 and 1",
-        is_parted(run, 257, 2, 17, 16, 256),
-    )
+    let names: &[u8] = b"\
+        60 subtries of 4 nodes: one page\n\
+        61 subtries of 4 nodes: 60 and 1\n\
+        59 subtries of 4 nodes and one of 5: 59 and 1\n\
+        16 subtries of 15 nodes: one page\n\
+        17 subtries of 15 nodes: 16 and 1\n\
+        16 subtries of 15 nodes and one of 4: 16 and 1\n";
+    let mut t = case(tally, names, is_parted(four, 60, 1, 60, 0, 0));
+    t = case(t, names, is_parted(four, 61, 2, 61, 60, 60));
+    t = case(t, names, is_parted(five, 61, 2, 60, 59, 59));
+    t = case(t, names, is_parted(run, 256, 1, 16, 0, 0));
+    t = case(t, names, is_parted(run, 272, 2, 17, 16, 256));
+    case(t, names, is_parted(run, 257, 2, 17, 16, 256))
 }
 
 pub fn packings(tally: Tally) -> Tally {
@@ -184,18 +149,10 @@ fn is_printed(image: &[u8], text: &[u8]) -> bool {
 
 // Plate 9 and the empty list as the listing program prints them.
 pub fn printed(tally: Tally) -> Tally {
-    let image = two_keys();
-    let t = case(
-        tally,
-        b"plate 9 printed",
-        is_printed(&image, b"admissions 2\n0 0 0\n0 1 1\n"),
-    );
-    let mut header = [0u8; 64];
-    let keys = [0u32; 1];
-    writer::write_keys(&keys[0..0], &mut header);
-    case(
-        t,
-        b"the empty list printed",
-        is_printed(&header, b"admissions 0\n"),
-    )
+    let names: &[u8] = b"\
+        plate 9 printed\n\
+        the empty list printed\n";
+    let pair = is_printed(&two_keys(), b"admissions 2\n0 0 0\n0 1 1\n");
+    let t = case(tally, names, pair);
+    case(t, names, is_printed(&no_key(), b"admissions 0\n"))
 }

@@ -14,27 +14,40 @@ use crate::say::Tally;
 
 // 1 to 5.
 pub fn headers(tally: Tally) -> Tally {
+    let names: &[u8] = b"\
+        1: no byte\n\
+        1: 63 bytes\n\
+        2: first byte of the mark\n\
+        2: last byte of the mark\n\
+        3: version 0\n\
+        3: version 2\n\
+        3: version 257\n\
+        4: key count 4,096 goes on to 13\n\
+        4: key count 4,097\n\
+        5: byte 5\n\
+        5: byte 40\n\
+        5: byte 63\n";
     let image = one_key();
-    let mut t = refuses_part(tally, b"1: no byte", &image, 0, 1);
-    t = refuses_part(t, b"1: 63 bytes", &image, 63, 1);
-    t = refuses_byte(t, b"2: first byte of the mark", 0, 0x4d, 2);
-    t = refuses_byte(t, b"2: last byte of the mark", 2, 0x55, 2);
-    t = refuses_byte(t, b"3: version 0", 4, 0, 3);
-    t = refuses_byte(t, b"3: version 2", 4, 2, 3);
-    t = refuses_byte(t, b"3: version 257", 3, 1, 3);
-    t = many_keys(t);
-    t = refuses_byte(t, b"5: byte 5", 5, 1, 5);
-    t = refuses_byte(t, b"5: byte 40", 40, 1, 5);
-    refuses_byte(t, b"5: byte 63", 63, 128, 5)
+    let mut t = refuses_part(tally, names, &image, 0, 1);
+    t = refuses_part(t, names, &image, 63, 1);
+    t = refuses_byte(t, names, 0, 0x4d, 2);
+    t = refuses_byte(t, names, 2, 0x55, 2);
+    t = refuses_byte(t, names, 4, 0, 3);
+    t = refuses_byte(t, names, 4, 2, 3);
+    t = refuses_byte(t, names, 3, 1, 3);
+    t = many_keys(t, names);
+    t = refuses_byte(t, names, 5, 1, 5);
+    t = refuses_byte(t, names, 40, 1, 5);
+    refuses_byte(t, names, 63, 128, 5)
 }
 
 // 4, on both sides.
-fn many_keys(tally: Tally) -> Tally {
+fn many_keys(tally: Tally, names: &[u8]) -> Tally {
     let mut image = with_byte(6, 16);
     image[7] = 0;
-    let t = refuses(tally, b"4: key count 4,096 goes on to 13", &image, 13);
+    let t = refuses(tally, names, &image, 13);
     image[7] = 1;
-    refuses(t, b"4: key count 4,097", &image, 4)
+    refuses(t, names, &image, 4)
 }
 
 // One byte more than the image of key 0.
@@ -58,70 +71,89 @@ fn empty_with(keys: u8, roots: u8) -> [u8; 64] {
 }
 
 // 7, without pages.
-fn empties(tally: Tally) -> Tally {
-    let mut t = accepts(tally, b"the image of the empty list", &empty_with(0, 0), 64);
-    t = refuses(t, b"7: the empty list with a root", &empty_with(0, 1), 7);
-    refuses(t, b"7: a key without pages", &empty_with(1, 0), 7)
+pub fn empties(tally: Tally) -> Tally {
+    let names: &[u8] = b"\
+        the image of the empty list\n\
+        7: the empty list with a root\n\
+        7: a key without pages\n";
+    let mut t = accepts(tally, names, &empty_with(0, 0), 64);
+    t = refuses(t, names, &empty_with(0, 1), 7);
+    refuses(t, names, &empty_with(1, 0), 7)
 }
 
 // 6 and 7.
 pub fn counts(tally: Tally) -> Tally {
+    let names: &[u8] = b"\
+        the image of key 0\n\
+        6: 64 bytes of 576\n\
+        6: 575 bytes of 576\n\
+        6: one byte more\n\
+        6: a page count one more\n\
+        7: key count 0 with pages\n\
+        7: band 1 with two roots\n\
+        7: band 3 without a root\n";
     let image = one_key();
-    let mut t = accepts(tally, b"the image of key 0", &image, 576);
-    t = refuses_part(t, b"6: 64 bytes of 576", &image, 64, 6);
-    t = refuses_part(t, b"6: 575 bytes of 576", &image, 575, 6);
-    t = refuses(t, b"6: one byte more", &longer(), 6);
-    t = refuses_byte(t, b"6: a page count one more", 13, 2, 6);
-    t = refuses_byte(t, b"7: key count 0 with pages", 7, 0, 7);
-    t = refuses_byte(t, b"7: band 1 with two roots", 11, 2, 7);
-    t = refuses_byte(t, b"7: band 3 without a root", 19, 0, 7);
-    empties(t)
+    let mut t = accepts(tally, names, &image, 576);
+    t = refuses_part(t, names, &image, 64, 6);
+    t = refuses_part(t, names, &image, 575, 6);
+    t = refuses(t, names, &longer(), 6);
+    t = refuses_byte(t, names, 13, 2, 6);
+    t = refuses_byte(t, names, 7, 0, 7);
+    t = refuses_byte(t, names, 11, 2, 7);
+    refuses_byte(t, names, 19, 0, 7)
 }
 
 // 8 and 9.
 pub fn heads(tally: Tally) -> Tally {
-    let mut t = accepts(tally, b"61 subtries in two pages", &two_pages(), 640);
-    t = refuses_byte(t, b"8: T of a band's first page", 65, 1, 8);
-    t = refuses_byte(t, b"8: B of a band's first page", 515, 1, 8);
-    t = refuses_two(t, b"8: B of a later page one less", 579, 59, 8);
-    t = refuses_two(t, b"8: B of a later page one more", 579, 61, 8);
-    t = refuses_two(t, b"9: 61 roots, by T of the next page", 577, 61, 9);
-    t = refuses_two(t, b"9: no root, by T of the next page", 577, 0, 9);
-    t = refuses_two(
-        t,
-        b"13: a root count one less, asked after the band above",
-        39,
-        60,
-        13,
-    );
-    refuses_two(t, b"11: 59 roots, by T of the next page", 577, 59, 11)
+    let names: &[u8] = b"\
+        61 subtries in two pages\n\
+        8: T of a band's first page\n\
+        8: B of a band's first page\n\
+        8: B of a later page one less\n\
+        8: B of a later page one more\n\
+        9: 61 roots, by T of the next page\n\
+        9: no root, by T of the next page\n\
+        13: a root count one less, asked after the band above\n\
+        11: 59 roots, by T of the next page\n";
+    let mut t = accepts(tally, names, &two_pages(), 640);
+    t = refuses_byte(t, names, 65, 1, 8);
+    t = refuses_byte(t, names, 515, 1, 8);
+    t = refuses_two(t, names, 579, 59, 8);
+    t = refuses_two(t, names, 579, 61, 8);
+    t = refuses_two(t, names, 577, 61, 9);
+    t = refuses_two(t, names, 577, 0, 9);
+    t = refuses_two(t, names, 39, 60, 13);
+    refuses_two(t, names, 577, 59, 11)
 }
 
 // 10, 11 and 13.
 pub fn nodes(tally: Tally) -> Tally {
-    let mut t = refuses_byte(tally, b"10: the first node 00", 68, 0x2a, 10);
-    t = refuses_byte(t, b"10: the fourth node 00", 516, 0xa8, 10);
-    t = refuses_two(t, b"10: 243 nodes", 516, 0xea, 10);
-    t = refuses_byte(t, b"11: a pair after the last node", 69, 0x40, 11);
-    t = refuses_byte(t, b"11: the last pair of the last page", 575, 1, 11);
-    t = refuses_byte(t, b"13: two out-links to one root", 68, 0xab, 13);
-    t = refuses_byte(t, b"13: two out-links and one key", 516, 0xab, 13);
-    refuses_byte(t, b"13: one out-link and two keys", 7, 2, 13)
+    let names: &[u8] = b"\
+        10: the first node 00\n\
+        10: the fourth node 00\n\
+        10: 243 nodes\n\
+        11: a pair after the last node\n\
+        11: the last pair of the last page\n\
+        13: two out-links to one root\n\
+        13: two out-links and one key\n\
+        13: one out-link and two keys\n";
+    let mut t = refuses_byte(tally, names, 68, 0x2a, 10);
+    t = refuses_byte(t, names, 516, 0xa8, 10);
+    t = refuses_two(t, names, 516, 0xea, 10);
+    t = refuses_byte(t, names, 69, 0x40, 11);
+    t = refuses_byte(t, names, 575, 1, 11);
+    t = refuses_byte(t, names, 68, 0xab, 13);
+    t = refuses_byte(t, names, 516, 0xab, 13);
+    refuses_byte(t, names, 7, 2, 13)
 }
 
 // 12.
 pub fn packed(tally: Tally) -> Tally {
-    let mut t = accepts(
-        tally,
-        b"12: 60 subtries, 240 nodes in one page",
-        &steps_image(16, 60),
-        576,
-    );
-    t = refuses(t, b"12: 236 nodes and a page for 4 more", &early_page(), 12);
-    accepts(
-        t,
-        b"12: 236 nodes and a page for 5 more",
-        &needed_page(),
-        640,
-    )
+    let names: &[u8] = b"\
+        12: 60 subtries, 240 nodes in one page\n\
+        12: 236 nodes and a page for 4 more\n\
+        12: 236 nodes and a page for 5 more\n";
+    let mut t = accepts(tally, names, &steps_image(16, 60), 576);
+    t = refuses(t, names, &early_page(), 12);
+    accepts(t, names, &needed_page(), 640)
 }

@@ -1,37 +1,48 @@
 // What the cases print, and how many were right.
+use testing::line_end;
+use testing::one_more;
+
+// `place` is where the next case's name begins in the names of its function.
 pub struct Tally {
     pub right: u32,
     pub wrong: u32,
+    pub place: usize,
 }
 
 pub fn none() -> Tally {
-    Tally { right: 0, wrong: 0 }
+    Tally {
+        right: 0,
+        wrong: 0,
+        place: 0,
+    }
 }
 
-// One more; never reached at the last number.
-fn one_more(n: u32) -> u32 {
-    if n < 4294967295 { n + 1 } else { n }
+// Prints the name that begins at `place`. Returns where the next begins: after the last at 0, for the names of the next function.
+fn say_name(names: &[u8], place: usize) -> usize {
+    if names.len() < place {
+        return 0;
+    }
+    let end = line_end(names, place);
+    io::write_all(1, &names[place..end]);
+    if end == names.len() { 0 } else { end }
 }
 
-fn line(word: &[u8], name: &[u8]) {
-    io::write_all(1, word);
-    io::write_all(1, name);
-    io::write_all(1, b"\n");
-}
-
-// A line for a case.
-pub fn case(tally: Tally, name: &[u8], is_right: bool) -> Tally {
+// A line for a case, with the next of the names. A function's names are one text of lines, in the order of its cases: a text in each call would make
+// the function's proof grow with the square of the number of calls.
+pub fn case(tally: Tally, names: &[u8], is_right: bool) -> Tally {
     if is_right {
-        line(b"right  ", name);
+        io::write_all(1, b"right  ");
         return Tally {
             right: one_more(tally.right),
             wrong: tally.wrong,
+            place: say_name(names, tally.place),
         };
     }
-    line(b"WRONG  ", name);
+    io::write_all(1, b"WRONG  ");
     Tally {
         right: tally.right,
         wrong: one_more(tally.wrong),
+        place: say_name(names, tally.place),
     }
 }
 
