@@ -6,12 +6,13 @@ use crate::tally::LOOKUPS;
 use crate::tally::Tally;
 use crate::tally::expect;
 use format::Admission;
-use format::Range;
 use format::Rectangle;
 use query::ByRank;
 use query::Members;
 use query::Presence;
 use testing::Random;
+use testing::rectangle;
+use testing::whole_square;
 
 // How many members an answer has; 65,536 for a refusal.
 pub fn member_count(members: Members) -> usize {
@@ -46,38 +47,35 @@ fn places(keys: &[u32], rectangle: Rectangle, listed: &[u32]) -> usize {
     place
 }
 
-// Count and listing of a rectangle.
-fn members(tally: Tally, keys: &[u32], image: &[u8], rectangle: Rectangle) -> Tally {
-    let n = testing::count_inside(keys, keys.len(), rectangle);
-    let t = expect(
-        tally,
-        COUNTS,
-        member_count(query::count(image, rectangle)) == n,
-    );
+// Whether the listing of a rectangle is its `n` keys.
+fn is_listing(keys: &[u32], image: &[u8], rectangle: Rectangle, n: usize) -> bool {
     let mut listed = [0u32; 4096];
     let found = member_count(query::list(image, rectangle, &mut listed));
     if found != n {
-        return expect(t, LISTINGS, false);
+        return false;
     }
-    expect(t, LISTINGS, places(keys, rectangle, &listed) == n)
+    places(keys, rectangle, &listed) == n
+}
+
+// Count and listing of a rectangle.
+fn members(tally: Tally, keys: &[u32], image: &[u8], rectangle: Rectangle) -> Tally {
+    let n = testing::count_inside(keys, keys.len(), rectangle);
+    let found = member_count(query::count(image, rectangle));
+    let t = expect(tally, COUNTS, found == n);
+    expect(t, LISTINGS, is_listing(keys, image, rectangle, n))
 }
 
 // The whole square.
 pub fn whole(tally: Tally, keys: &[u32], image: &[u8]) -> Tally {
-    members(tally, keys, image, rectangle(0, 65535, 0, 65535))
+    members(tally, keys, image, whole_square())
 }
 
-pub fn rectangle(low_holder: u16, high_holder: u16, low_slot: u16, high_slot: u16) -> Rectangle {
-    Rectangle {
-        holders: Range {
-            low: low_holder,
-            high: high_holder,
-        },
-        slots: Range {
-            low: low_slot,
-            high: high_slot,
-        },
+// Whether a key is the one of this rank.
+fn is_at(keys: &[u32], rank: usize, key: u32) -> bool {
+    if rank < keys.len() {
+        return keys[rank] == key;
     }
+    false
 }
 
 // Whether lookup finds the rank that the plain reader finds, or neither finds one.
@@ -88,18 +86,8 @@ fn is_right(keys: &[u32], image: &[u8], holder: u16, slot: u16) -> bool {
     let answer = found.answer;
     match answer {
         Presence::Refused(_) => false,
-        Presence::Absent => {
-            if rank < keys.len() {
-                return keys[rank] != key;
-            }
-            true
-        }
-        Presence::Listed(r) => {
-            if rank < keys.len() {
-                return keys[rank] == key && r as usize == rank;
-            }
-            false
-        }
+        Presence::Absent => !is_at(keys, rank, key),
+        Presence::Listed(r) => r as usize == rank && is_at(keys, rank, key),
     }
 }
 

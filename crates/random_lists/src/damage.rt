@@ -1,13 +1,14 @@
 // Damaged images. One that is still accepted must be the exact image of its list.
 use crate::ask::member_count;
 use crate::ask::pick;
-use crate::ask::rectangle;
 use crate::tally::DAMAGED;
 use crate::tally::Tally;
 use crate::tally::expect;
 use crate::tally::note;
 use checker::Checked;
 use testing::Random;
+use testing::starts_with_bytes;
+use testing::whole_square;
 use writer::Written;
 
 // The writer's length, or 0 where it refuses.
@@ -18,33 +19,24 @@ pub fn length_of(written: Written) -> usize {
     }
 }
 
-fn starts_with(bytes: &[u8], text: &[u8]) -> bool {
-    let mut i: usize = 0;
-    while i < text.len() {
-        if bytes.len() <= i {
-            return false;
-        }
-        if bytes[i] != text[i] {
-            return false;
-        }
-        i += 1;
+// Whether the writer makes this image of the keys.
+fn is_image(keys: &[u32], image: &[u8]) -> bool {
+    let mut out = [0u8; 65536];
+    let length = length_of(writer::write_keys(keys, &mut out));
+    if length != image.len() {
+        return false;
     }
-    true
+    starts_with_bytes(&out, image)
 }
 
 // Whether an accepted image is what the writer makes of its listing.
 fn is_exact(image: &[u8]) -> bool {
     let mut keys = [0u32; 4096];
-    let n = member_count(query::list(image, rectangle(0, 65535, 0, 65535), &mut keys));
+    let n = member_count(query::list(image, whole_square(), &mut keys));
     if 4096 < n {
         return false;
     }
-    let mut out = [0u8; 65536];
-    let length = length_of(writer::write_keys(&keys[0..n], &mut out));
-    if length != image.len() {
-        return false;
-    }
-    starts_with(&out, image)
+    is_image(&keys[0..n], image)
 }
 
 // The judgement of a damaged image.

@@ -6,37 +6,49 @@ mod pairs;
 mod scans;
 mod tally;
 
+use tally::LISTS;
 use tally::Tally;
+use tally::expect;
 use testing::Random;
 
-// All comparisons of one list and its image.
-fn compare(tally: Tally, keys: &[u32], image: &mut [u8], seed: Random) -> Tally {
+// All jobs on the image of a list.
+fn read(tally: Tally, keys: &[u32], image: &[u8], seed: Random) -> Tally {
     let mut t = ask::whole(tally, keys, image);
     t = ask::ask(t, keys, image, seed);
     t = pairs::pairs(t, keys, image, seed);
-    t = scans::scans(t, image, seed);
+    scans::scans(t, image, seed)
+}
+
+// The same, and its damaged images.
+fn compare(tally: Tally, keys: &[u32], image: &mut [u8], seed: Random) -> Tally {
+    let t = read(tally, keys, image, seed);
     damage::damage(t, image, seed)
 }
 
-// Writes the image of the first `n` keys, and compares.
-fn list(tally: Tally, keys: &[u32], n: usize, seed: Random) -> Tally {
+// Writes the image of the keys, and compares.
+fn compare_list(tally: Tally, keys: &[u32], seed: Random) -> Tally {
     let mut image = [0u8; 65536];
-    if keys.len() < n {
-        return tally::expect(tally, tally::LISTS, false);
-    }
-    let length = damage::length_of(writer::write_keys(&keys[0..n], &mut image));
+    let length = damage::length_of(writer::write_keys(keys, &mut image));
     if length < 64 {
-        return tally::expect(tally, tally::LISTS, false);
+        return expect(tally, LISTS, false);
     }
     if 65536 < length {
-        return tally::expect(tally, tally::LISTS, false);
+        return expect(tally, LISTS, false);
     }
     compare(
-        tally::expect(tally, tally::LISTS, true),
-        &keys[0..n],
+        expect(tally, LISTS, true),
+        keys,
         &mut image[0..length],
         seed,
     )
+}
+
+// The list of the first `n` keys.
+fn list(tally: Tally, keys: &[u32], n: usize, seed: Random) -> Tally {
+    if keys.len() < n {
+        return expect(tally, LISTS, false);
+    }
+    compare_list(tally, &keys[0..n], seed)
 }
 
 // Lists of several sizes with keys 1 to `gap` apart.
@@ -69,24 +81,30 @@ fn sum(a: u32, b: u32) -> u32 {
     (a % 65536) + (b % 65536)
 }
 
-fn main() {
+// The differences of the lists of spaced keys.
+fn spaced_lists() -> u32 {
     let mut d = spaced(b"every key", 0, 1, 1);
     d = sum(d, spaced(b"keys 1 to 3 apart", 77, 3, 2));
     d = sum(d, spaced(b"keys 1 to 40 apart", 4000000000, 40, 3));
     d = sum(d, spaced(b"keys 1 to 3,000 apart", 5, 3000, 4));
-    d = sum(d, spaced(b"keys 1 to 2,000,000 apart", 12345, 2000000, 5));
-    d = sum(
-        d,
-        clustered(b"20 half-days of 360 for each holder", 360, 20, 6),
-    );
+    sum(d, spaced(b"keys 1 to 2,000,000 apart", 12345, 2000000, 5))
+}
+
+// The differences of the lists of holders.
+fn clustered_lists() -> u32 {
+    let mut d = clustered(b"20 half-days of 360 for each holder", 360, 20, 6);
     d = sum(
         d,
         clustered(b"2 half-days of 300 for each holder", 300, 2, 7),
     );
-    d = sum(
+    sum(
         d,
         clustered(b"400 half-days of 65,536 for each holder", 65536, 400, 8),
-    );
+    )
+}
+
+fn main() {
+    let d = sum(spaced_lists(), clustered_lists());
     io::print_decimal(1, d as u64);
     io::write_all(1, b" differences\n");
 }

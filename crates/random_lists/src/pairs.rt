@@ -1,26 +1,15 @@
 // Pairs of lists that differ only outside a rectangle must list alike inside it.
+use crate::ask::at_rank;
 use crate::ask::member_count;
-use crate::ask::rectangle;
+use crate::ask::pick;
+use crate::damage::length_of;
 use crate::tally::PAIRS;
 use crate::tally::Tally;
 use crate::tally::expect;
 use format::Rectangle;
 use testing::Random;
-
-// Whether two buffers of one length are equal.
-fn are_alike(a: &[u32], b: &[u32]) -> bool {
-    let mut i: usize = 0;
-    while i < a.len() {
-        if b.len() <= i {
-            return false;
-        }
-        if a[i] != b[i] {
-            return false;
-        }
-        i += 1;
-    }
-    true
-}
+use testing::rectangle;
+use testing::starts_with;
 
 // Whether a key is inside, or of the half of the others that is kept.
 fn is_kept(key: u32, asked: Rectangle, random: Random) -> bool {
@@ -64,38 +53,39 @@ fn list_alike(image: &[u8], other: &[u8], asked: Rectangle) -> bool {
     if n != m {
         return false;
     }
-    are_alike(&a, &b)
+    starts_with(&a, &b)
 }
 
-// A pair for one rectangle.
-fn pair(tally: Tally, keys: &[u32], image: &[u8], asked: Rectangle, seed: Random) -> Tally {
+// Writes the image of a thinned list. Returns its length, or 0.
+fn write_thinned(keys: &[u32], asked: Rectangle, seed: Random, out: &mut [u8]) -> usize {
     let mut thinned = [0u32; 4096];
     let n = thin(keys, asked, seed, &mut thinned);
     if 4096 < n {
-        return expect(tally, PAIRS, false);
+        return 0;
     }
-    let mut other = [0u8; 65536];
-    let length = crate::damage::length_of(writer::write_keys(&thinned[0..n], &mut other));
-    if length < 64 {
-        return expect(tally, PAIRS, false);
-    }
-    if 65536 < length {
-        return expect(tally, PAIRS, false);
-    }
-    expect(tally, PAIRS, list_alike(image, &other[0..length], asked))
+    length_of(writer::write_keys(&thinned[0..n], out))
 }
 
-// The rectangle of some holders or slots up to those of a rank's admission.
+// Whether a list and its thinned list are alike inside the rectangle.
+fn are_alike(keys: &[u32], image: &[u8], asked: Rectangle, seed: Random) -> bool {
+    let mut other = [0u8; 65536];
+    let length = write_thinned(keys, asked, seed, &mut other);
+    if length < 64 {
+        return false;
+    }
+    if 65536 < length {
+        return false;
+    }
+    list_alike(image, &other[0..length], asked)
+}
+
+// A pair for some holders up to that of a rank's admission, and one for some slots too.
 fn pair_at(tally: Tally, keys: &[u32], image: &[u8], rank: usize, seed: Random) -> Tally {
-    let a = crate::ask::at_rank(image, rank);
-    let t = pair(tally, keys, image, rectangle(0, a.holder, 0, 65535), seed);
-    pair(
-        t,
-        keys,
-        image,
-        rectangle(a.holder / 2, a.holder, a.slot / 2, a.slot),
-        seed,
-    )
+    let a = at_rank(image, rank);
+    let holders = rectangle(0, a.holder, 0, 65535);
+    let t = expect(tally, PAIRS, are_alike(keys, image, holders, seed));
+    let both = rectangle(a.holder / 2, a.holder, a.slot / 2, a.slot);
+    expect(t, PAIRS, are_alike(keys, image, both, seed))
 }
 
 // 10 ranks.
@@ -105,7 +95,7 @@ pub fn pairs(tally: Tally, keys: &[u32], image: &[u8], seed: Random) -> Tally {
     let mut i: u32 = 0;
     while i < 10 {
         random = testing::next(random);
-        t = pair_at(t, keys, image, crate::ask::pick(random, keys.len()), random);
+        t = pair_at(t, keys, image, pick(random, keys.len()), random);
         i += 1;
     }
     t

@@ -1,14 +1,19 @@
 // Long rows of scans, against a plain rule of the gate.
 use crate::ask::at_rank;
+use crate::ask::member_count;
 use crate::ask::pick;
 use crate::tally::SCANS;
 use crate::tally::Tally;
 use crate::tally::expect;
 use gate::Scanned;
 use testing::Random;
+use testing::one_more;
+use testing::whole_square;
+
+const LOCKOUT: u32 = 100;
 
 // The number of the refusal that a record asks for, or 0.
-fn due(record: u32, time: u32, lockout: u32) -> u8 {
+fn due(record: u32, time: u32) -> u8 {
     if record == 0 {
         return 0;
     }
@@ -16,7 +21,7 @@ fn due(record: u32, time: u32, lockout: u32) -> u8 {
     if now < record as u64 {
         return 25;
     }
-    if now < record as u64 + lockout as u64 {
+    if now < record as u64 + LOCKOUT as u64 {
         return 26;
     }
     0
@@ -37,38 +42,44 @@ fn is_recorded(records: &[u32], rank: usize, record: u32, openings: u32) -> bool
     records[rank] == record && records[records.len() - 1] == openings
 }
 
-fn one_more(n: u32) -> u32 {
-    if n < 4294967295 { n + 1 } else { n }
+// Whether a scan of the admission of a rank gets its answer.
+fn is_scanned(image: &[u8], records: &mut [u32], rank: usize, time: u32, refusal: u8) -> bool {
+    let a = at_rank(image, rank);
+    let scanned = gate::scan(image, records, a.holder, a.slot, time, LOCKOUT);
+    is_answer(scanned, refusal, rank)
 }
 
-// One scan of the admission of a rank.
-fn scan(
-    tally: Tally,
+// Whether a scan gets its answer and leaves its records. The record and the openings before it are given.
+fn is_right(
     image: &[u8],
     records: &mut [u32],
     rank: usize,
     time: u32,
-    lockout: u32,
-) -> Tally {
+    record: u32,
+    openings: u32,
+) -> bool {
+    let refusal = due(record, time);
+    if !is_scanned(image, records, rank, time, refusal) {
+        return false;
+    }
+    if refusal == 0 {
+        return is_recorded(records, rank, one_more(time), one_more(openings));
+    }
+    is_recorded(records, rank, record, openings)
+}
+
+// One scan of the admission of a rank.
+fn scan(tally: Tally, image: &[u8], records: &mut [u32], rank: usize, time: u32) -> Tally {
     if records.len() <= rank {
         return tally;
     }
     let record = records[rank];
     let openings = records[records.len() - 1];
-    let refusal = due(record, time, lockout);
-    let a = at_rank(image, rank);
-    let scanned = gate::scan(image, records, a.holder, a.slot, time, lockout);
-    if !is_answer(scanned, refusal, rank) {
-        return expect(tally, SCANS, false);
-    }
-    if refusal == 0 {
-        return expect(
-            tally,
-            SCANS,
-            is_recorded(records, rank, one_more(time), one_more(openings)),
-        );
-    }
-    expect(tally, SCANS, is_recorded(records, rank, record, openings))
+    expect(
+        tally,
+        SCANS,
+        is_right(image, records, rank, time, record, openings),
+    )
 }
 
 // A rank, two in three times one of the first four, so that some are scanned often.
@@ -91,7 +102,7 @@ fn scan_row(tally: Tally, image: &[u8], records: &mut [u32], keys: usize, seed: 
         random = testing::next(random);
         let rank = rank_of(random, keys);
         random = testing::next(random);
-        t = scan(t, image, records, rank, time_of(i, random), 100);
+        t = scan(t, image, records, rank, time_of(i, random));
         i += 1;
     }
     t
@@ -100,10 +111,7 @@ fn scan_row(tally: Tally, image: &[u8], records: &mut [u32], keys: usize, seed: 
 // The same with records that were never opened.
 pub fn scans(tally: Tally, image: &[u8], seed: Random) -> Tally {
     let mut records = [0u32; 4097];
-    let keys = crate::ask::member_count(query::count(
-        image,
-        crate::ask::rectangle(0, 65535, 0, 65535),
-    ));
+    let keys = member_count(query::count(image, whole_square()));
     if 4096 < keys {
         return expect(tally, SCANS, false);
     }

@@ -1,5 +1,8 @@
 // Counts of what was compared.
 
+use testing::line_end;
+use testing::one_more;
+
 // Places 0 to 26 count the damaged images by the number that refused them, 0 for the accepted ones; the places after them have the names below.
 pub struct Tally {
     pub counts: [u32; 40],
@@ -27,10 +30,6 @@ pub fn none() -> Tally {
     Tally { counts: [0u32; 40] }
 }
 
-fn one_more(n: u32) -> u32 {
-    if n < 4294967295 { n + 1 } else { n }
-}
-
 // One more at a place.
 pub fn note(tally: Tally, place: usize) -> Tally {
     let mut counts = tally.counts;
@@ -54,10 +53,29 @@ pub fn differences(tally: Tally) -> u32 {
     counts[DIFFERENCES]
 }
 
-fn say_count(count: u32, word: &[u8]) {
+// A line of a count, with the word that begins at `place`. Returns where the next word begins.
+fn say_count(count: u32, words: &[u8], place: usize) -> usize {
+    if words.len() < place {
+        return place;
+    }
+    let end = line_end(words, place);
     io::write_all(1, b"  ");
     io::print_decimal(1, count as u64);
-    io::write_all(1, word);
+    io::write_all(1, &words[place..end]);
+    end
+}
+
+// The counts from LISTS to DAMAGED.
+fn say_counts(tally: Tally) {
+    let words: &[u8] =
+        b" lists\n lookups\n counts\n listings\n found by rank\n scans\n pairs of lists\n damaged images\n";
+    let counts = tally.counts;
+    let mut place: usize = 0;
+    let mut i: usize = LISTS;
+    while i <= DAMAGED {
+        place = say_count(counts[i], words, place);
+        i += 1;
+    }
 }
 
 fn say_refused(n: usize, count: u32) {
@@ -86,15 +104,8 @@ pub fn say(tally: Tally, name: &[u8]) {
     let counts = tally.counts;
     io::write_all(1, name);
     io::write_all(1, b":\n");
-    say_count(counts[LISTS], b" lists\n");
-    say_count(counts[LOOKUPS], b" lookups\n");
-    say_count(counts[COUNTS], b" counts\n");
-    say_count(counts[LISTINGS], b" listings\n");
-    say_count(counts[FINDS], b" found by rank\n");
-    say_count(counts[SCANS], b" scans\n");
-    say_count(counts[PAIRS], b" pairs of lists\n");
-    say_count(counts[DAMAGED], b" damaged images\n");
-    say_count(counts[0], b" of them accepted\n");
+    say_counts(tally);
+    say_count(counts[0], b" of them accepted\n", 0);
     say_refusals(tally);
-    say_count(counts[DIFFERENCES], b" differences\n");
+    say_count(counts[DIFFERENCES], b" differences\n", 0);
 }

@@ -1,0 +1,16 @@
+-- `random_lists::tally::say_counts` meets its contract. Assumes nothing.
+use Prim.Native.Nat.{_-_, _≤_}
+use borrow.Author.Needs.{needs}
+use Rattle.random_lists.proofs.tally.say_counts.Statement.{statement}
+use Rattle.random_lists.proofs.tally.say_counts.Tie as tie
+
+abbrev Inv-loop : tie.InvT-loop
+Inv-loop words counts place₀ i₀ place i = (i ≤ 38)
+
+abbrev μ-loop : tie.MeasureT-loop
+μ-loop words counts place₀ i₀ place i = 38 - i
+
+pub say-counts-spec : {M : Type 1} → statement M
+say-counts-spec =
+    tie.close
+    (tie.spec Inv-loop μ-loop (λ c. search needs) (λ c. search needs) (λ c. search needs) (λ c. search needs) (λ c κs. search needs) (λ c. search needs) (λ c. search needs) (λ c. search needs) (λ c. search needs))
