@@ -1,6 +1,7 @@
 // Reads an image from standard input, turns over each of its bits in turn, and prints how many of these images each question refuses, and which are
 // accepted, with the list that such an image then has.
 use checker::Checked;
+use testing::one_more;
 
 // How many images each question refused; place 0 counts the accepted ones.
 pub struct Survey {
@@ -13,11 +14,6 @@ fn refusal(image: &[u8]) -> usize {
         Checked::Accepted(_) => 0,
         Checked::Refused(n) => n as usize,
     }
-}
-
-// One more; never reached at the last number.
-fn one_more(n: u32) -> u32 {
-    if n < 4294967295 { n + 1 } else { n }
 }
 
 // The survey with one more image refused by question `n`, or accepted for 0.
@@ -63,22 +59,15 @@ fn survey_bit(image: &mut [u8], at: usize, bit: u8, survey: Survey) -> Survey {
     with_one(survey, n)
 }
 
-// Two bits of one byte.
-fn survey_two(image: &mut [u8], at: usize, first: u8, second: u8, survey: Survey) -> Survey {
-    let s = survey_bit(image, at, first, survey);
-    survey_bit(image, at, second, s)
-}
-
-// Four bits of one byte.
-fn survey_four(image: &mut [u8], at: usize, first: u8, third: u8, survey: Survey) -> Survey {
-    let s = survey_two(image, at, first, first / 2, survey);
-    survey_two(image, at, third, third / 2, s)
-}
-
-// Each bit of one byte.
+// Each bit of one byte, the highest first.
 fn survey_byte(image: &mut [u8], at: usize, survey: Survey) -> Survey {
-    let s = survey_four(image, at, 128, 32, survey);
-    survey_four(image, at, 8, 2, s)
+    let mut s = survey;
+    let mut bit: u8 = 128;
+    while 0 < bit {
+        s = survey_bit(image, at, bit, s);
+        bit /= 2;
+    }
+    s
 }
 
 // Each byte from the first to before `end`.
