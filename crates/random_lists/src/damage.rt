@@ -1,6 +1,7 @@
 // Damaged images. One that is still accepted must be the exact image of its list.
 use crate::ask::member_count;
 use crate::ask::pick;
+use crate::tally::ACCEPTED;
 use crate::tally::DAMAGED;
 use crate::tally::Tally;
 use crate::tally::expect;
@@ -43,7 +44,7 @@ fn is_exact(image: &[u8]) -> bool {
 fn judge(tally: Tally, image: &[u8]) -> Tally {
     match checker::check(image) {
         Checked::Refused(n) => note(expect(tally, DAMAGED, true), n as usize),
-        Checked::Accepted(_) => note(expect(tally, DAMAGED, is_exact(image)), 0),
+        Checked::Accepted(_) => note(expect(tally, DAMAGED, is_exact(image)), ACCEPTED),
     }
 }
 
@@ -111,38 +112,37 @@ fn bit(random: Random) -> u8 {
     bits[pick(random, 8) % 8]
 }
 
-// A bit of any byte, and of the header.
-fn damage_bits(tally: Tally, image: &mut [u8], random: Random, other: Random) -> Tally {
-    let bytes = image.len();
-    let t = change(tally, image, pick(random, bytes), bit(other));
-    change(t, image, pick(random, 64), bit(other))
+// Any byte, a byte of the header, and T, B and the first nodes of a page.
+fn places(random: Random, bytes: usize, page: usize) -> [usize; 5] {
+    [
+        pick(random, bytes),
+        pick(random, 64),
+        place(page, 1),
+        place(page, 3),
+        place(page, 4),
+    ]
 }
 
-// T and B of a page off by one.
-fn damage_counters(tally: Tally, image: &mut [u8], page: usize) -> Tally {
-    let t = change(tally, image, place(page, 1), 1);
-    change(t, image, place(page, 3), 1)
+// Each of the bytes changed in turn.
+fn change_each(tally: Tally, image: &mut [u8], at: [usize; 5], by: [u8; 5]) -> Tally {
+    let mut t = tally;
+    let mut i: usize = 0;
+    while i < 5 {
+        t = change(t, image, at[i], by[i]);
+        i += 1;
+    }
+    t
 }
 
-// A node of a page, and two pages exchanged.
-fn damage_pages(tally: Tally, image: &mut [u8], page: usize, next: usize, by: u8) -> Tally {
-    let t = change(tally, image, place(page, 4), by);
-    swap(t, image, page, next)
-}
-
-// Damage of every kind at random places of the pages.
-fn damage_page(tally: Tally, image: &mut [u8], random: Random, other: Random) -> Tally {
-    let pages = image.len() / 64;
-    let page = pick(random, pages);
-    let t = damage_counters(tally, image, page);
-    damage_pages(t, image, page, pick(other, pages), bit(other))
-}
-
-// The same, bits of any bytes, and the end cut off.
+// A bit of each of these bytes, two pages exchanged, and the end cut off.
 fn damage_at(tally: Tally, image: &mut [u8], random: Random, other: Random) -> Tally {
-    let mut t = damage_bits(tally, image, random, other);
-    t = damage_page(t, image, random, other);
-    truncate(t, image, pick(other, image.len()))
+    let bytes = image.len();
+    let page = pick(random, bytes / 64);
+    let by = bit(other);
+    let at = places(random, bytes, page);
+    let mut t = change_each(tally, image, at, [by, by, 1, 1, by]);
+    t = swap(t, image, page, pick(other, bytes / 64));
+    truncate(t, image, pick(other, bytes))
 }
 
 // 40 random places.

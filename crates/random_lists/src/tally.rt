@@ -3,7 +3,7 @@
 use testing::line_end;
 use testing::one_more;
 
-// Places 0 to 26 count the damaged images by the number that refused them, 0 for the accepted ones; the places after them have the names below.
+// Places 1 to 26 count the damaged images by the number that refused them; the places after them have the names below.
 pub struct Tally {
     pub counts: [u32; 40],
 }
@@ -24,7 +24,9 @@ pub const PAIRS: usize = 36;
 
 pub const DAMAGED: usize = 37;
 
-pub const DIFFERENCES: usize = 38;
+pub const ACCEPTED: usize = 38;
+
+pub const DIFFERENCES: usize = 39;
 
 pub fn none() -> Tally {
     Tally { counts: [0u32; 40] }
@@ -53,27 +55,36 @@ pub fn differences(tally: Tally) -> u32 {
     counts[DIFFERENCES]
 }
 
-// A line of a count, with the word that begins at `place`. Returns where the next word begins.
-fn say_count(count: u32, words: &[u8], place: usize) -> usize {
-    if words.len() < place {
+// A line of a count, with the line of the text that begins at `place`. Returns where the next line begins.
+fn say_count(count: u32, text: &[u8], place: usize) -> usize {
+    if text.len() < place {
         return place;
     }
-    let end = line_end(words, place);
+    let end = line_end(text, place);
     io::write_all(1, b"  ");
     io::print_decimal(1, count as u64);
-    io::write_all(1, &words[place..end]);
+    io::write_all(1, b" ");
+    io::write_all(1, &text[place..end]);
     end
 }
 
-// The counts from LISTS to DAMAGED.
+// The counts from LISTS to ACCEPTED.
 fn say_counts(tally: Tally) {
-    let words: &[u8] =
-        b" lists\n lookups\n counts\n listings\n found by rank\n scans\n pairs of lists\n damaged images\n";
+    let text: &[u8] = b"\
+        lists\n\
+        lookups\n\
+        counts\n\
+        listings\n\
+        found by rank\n\
+        scans\n\
+        pairs of lists\n\
+        damaged images\n\
+        of them accepted\n";
     let counts = tally.counts;
     let mut place: usize = 0;
     let mut i: usize = LISTS;
-    while i <= DAMAGED {
-        place = say_count(counts[i], words, place);
+    while i <= ACCEPTED {
+        place = say_count(counts[i], text, place);
         i += 1;
     }
 }
@@ -105,7 +116,6 @@ pub fn say(tally: Tally, name: &[u8]) {
     io::write_all(1, name);
     io::write_all(1, b":\n");
     say_counts(tally);
-    say_count(counts[0], b" of them accepted\n", 0);
     say_refusals(tally);
-    say_count(counts[DIFFERENCES], b" differences\n", 0);
+    say_count(counts[DIFFERENCES], b"differences\n", 0);
 }
