@@ -21,7 +21,7 @@ pub struct Scan {
     pub number: u32,
 }
 
-// A door that no one went through.
+// The door before its first scan.
 fn closed(tally: Tally) -> Door {
     Door {
         tally,

@@ -62,7 +62,7 @@ fn is_dense(image: &[u8]) -> bool {
 }
 
 // Keys 0 to 4095.
-fn dense_cases(tally: Tally, image: &[u8]) -> Tally {
+pub fn dense(tally: Tally) -> Tally {
     let names: &[u8] = b"\
         keys 0 to 4095: 1,536 bytes, and no byte after them is touched\n\
         keys 0 to 4095: band 7 has one page\n\
@@ -73,6 +73,8 @@ fn dense_cases(tally: Tally, image: &[u8]) -> Tally {
         keys 0 to 4095: T 0, 16 to 240 and B 0, 256 to 3,840\n\
         keys 0 to 4095: accepted\n\
         keys 0 to 4095: the listing is the list\n";
+    let dense = dense_image();
+    let image: &[u8] = &dense;
     let mut t = case(tally, names, part_is(image, 1536, 1600, 0xee));
     t = case(t, names, number(image, 32) == 1);
     t = case(t, names, number(image, 34) == 16);
@@ -82,11 +84,6 @@ fn dense_cases(tally: Tally, image: &[u8]) -> Tally {
     t = case(t, names, are_heads(image));
     t = accepts(t, names, image, 1536);
     case(t, names, is_dense(image))
-}
-
-pub fn dense(tally: Tally) -> Tally {
-    let image = dense_image();
-    dense_cases(tally, &image)
 }
 
 // Whether the image has these counts of pages and roots in band 8, and this T and B in its second page there, page 9.
@@ -114,7 +111,7 @@ fn is_parted(keys: &[u32], n: usize, pages: u32, roots: u32, root: u32, link: u3
 }
 
 // Subtries of 4 and of 15 nodes in band 8. Where there is no page 9 the buffer stays 0 there.
-fn packing_cases(tally: Tally, four: &[u32], five: &[u32], run: &[u32]) -> Tally {
+pub fn packings(tally: Tally) -> Tally {
     let names: &[u8] = b"\
         60 subtries of 4 nodes: one page\n\
         61 subtries of 4 nodes: 60 and 1\n\
@@ -122,19 +119,16 @@ fn packing_cases(tally: Tally, four: &[u32], five: &[u32], run: &[u32]) -> Tally
         16 subtries of 15 nodes: one page\n\
         17 subtries of 15 nodes: 16 and 1\n\
         16 subtries of 15 nodes and one of 4: 16 and 1\n";
+    let fours = steps(16);
+    let four: &[u32] = &fours;
+    let ones = steps(1);
+    let run: &[u32] = &ones;
     let mut t = case(tally, names, is_parted(four, 60, 1, 60, 0, 0));
     t = case(t, names, is_parted(four, 61, 2, 61, 60, 60));
-    t = case(t, names, is_parted(five, 61, 2, 60, 59, 59));
+    t = case(t, names, is_parted(&five_nodes(), 61, 2, 60, 59, 59));
     t = case(t, names, is_parted(run, 256, 1, 16, 0, 0));
     t = case(t, names, is_parted(run, 272, 2, 17, 16, 256));
     case(t, names, is_parted(run, 257, 2, 17, 16, 256))
-}
-
-pub fn packings(tally: Tally) -> Tally {
-    let four = steps(16);
-    let five = five_nodes();
-    let run = steps(1);
-    packing_cases(tally, &four, &five, &run)
 }
 
 // Whether the listing program prints this text for an image.

@@ -160,7 +160,7 @@ fn listing(
 }
 
 // 18 and 19.
-fn rectangle_cases(tally: Tally, image: &[u8], pair: &[u8]) -> Tally {
+pub fn rectangles(tally: Tally) -> Tally {
     let names: &[u8] = b"\
         18: holders\n\
         18: slots\n\
@@ -169,6 +169,10 @@ fn rectangle_cases(tally: Tally, image: &[u8], pair: &[u8]) -> Tally {
         19: no place for no member\n\
         19: no place for one member\n\
         19: one place for one member\n";
+    let pages = two_pages();
+    let image: &[u8] = &pages;
+    let keys = two_keys();
+    let pair: &[u8] = &keys;
     let mut t = case(tally, names, are_refused(pair, rectangle(1, 0, 0, 0), 18));
     t = case(
         t,
@@ -180,12 +184,6 @@ fn rectangle_cases(tally: Tally, image: &[u8], pair: &[u8]) -> Tally {
     t = listing(t, names, pair, rectangle(1, 9, 0, 9), 0, 0, 0);
     t = listing(t, names, pair, rectangle(0, 0, 1, 1), 0, 0, 19);
     listing(t, names, pair, rectangle(0, 0, 1, 1), 1, 1, 0)
-}
-
-pub fn rectangles(tally: Tally) -> Tally {
-    let image = two_pages();
-    let pair = two_keys();
-    rectangle_cases(tally, &image, &pair)
 }
 
 // Whether a rank's admission is this one.
@@ -226,7 +224,7 @@ fn is_absent(image: &[u8], holder: u16, slot: u16) -> bool {
 }
 
 // 20, and lookup. Key 944 is holder 28, slot 20, and key 960 is holder 24, slot 24.
-fn rank_cases(tally: Tally, image: &[u8]) -> Tally {
+pub fn ranks(tally: Tally) -> Tally {
     let names: &[u8] = b"\
         20: rank 61 of 61\n\
         20: rank 60 of 61\n\
@@ -236,6 +234,8 @@ fn rank_cases(tally: Tally, image: &[u8]) -> Tally {
         lookup of the first key of page 9\n\
         lookup of an absent key of page 9\n\
         lookup of the last key of all\n";
+    let pages = two_pages();
+    let image: &[u8] = &pages;
     let mut t = case(tally, names, find_refusal(query::find(image, 61)) == 20);
     t = case(t, names, is_found(image, 60, 24, 24));
     t = case(t, names, is_found(image, 59, 28, 20));
@@ -244,9 +244,4 @@ fn rank_cases(tally: Tally, image: &[u8]) -> Tally {
     t = case(t, names, is_listed(image, 24, 24, 60, 9));
     t = case(t, names, is_absent(image, 24, 25));
     case(t, names, is_absent(image, 65535, 65535))
-}
-
-pub fn ranks(tally: Tally) -> Tally {
-    let image = two_pages();
-    rank_cases(tally, &image)
 }

@@ -27,9 +27,10 @@ pub fn headers(tally: Tally) -> Tally {
         5: byte 5\n\
         5: byte 40\n\
         5: byte 63\n";
-    let image = one_key();
-    let mut t = refuses_part(tally, names, &image, 0, 1);
-    t = refuses_part(t, names, &image, 63, 1);
+    let key = one_key();
+    let image: &[u8] = &key;
+    let mut t = refuses_part(tally, names, image, 0, 1);
+    t = refuses_part(t, names, image, 63, 1);
     t = refuses_byte(t, names, 0, 0x4d, 2);
     t = refuses_byte(t, names, 2, 0x55, 2);
     t = refuses_byte(t, names, 4, 0, 3);
@@ -48,14 +49,6 @@ fn many_keys(tally: Tally, names: &[u8]) -> Tally {
     let t = refuses(tally, names, &image, 13);
     image[7] = 1;
     refuses(t, names, &image, 4)
-}
-
-// One byte more than the image of key 0.
-fn longer() -> [u8; 577] {
-    let mut image = [0u8; 577];
-    let keys = [0u32; 1];
-    writer::write_keys(&keys, &mut image);
-    image
 }
 
 // The empty list's image with other low bytes of the key count and of band 8's root count.
@@ -92,11 +85,12 @@ pub fn counts(tally: Tally) -> Tally {
         7: key count 0 with pages\n\
         7: band 1 with two roots\n\
         7: band 3 without a root\n";
-    let image = one_key();
-    let mut t = accepts(tally, names, &image, 576);
-    t = refuses_part(t, names, &image, 64, 6);
-    t = refuses_part(t, names, &image, 575, 6);
-    t = refuses(t, names, &longer(), 6);
+    let key = steps_image(1, 1);
+    let image: &[u8] = &key;
+    let mut t = accepts(tally, names, image, 576);
+    t = refuses_part(t, names, image, 64, 6);
+    t = refuses_part(t, names, image, 575, 6);
+    t = refuses_part(t, names, image, 577, 6);
     t = refuses_byte(t, names, 13, 2, 6);
     t = refuses_byte(t, names, 7, 0, 7);
     t = refuses_byte(t, names, 11, 2, 7);
