@@ -81,17 +81,31 @@ fn scan_refuses(image: &[u8], n: u8) -> bool {
     all_numbers(&records, 77)
 }
 
-// Whether the listing program would print the refusal `n`.
+// Whether a line is the number `n`, without leading zeros.
+fn is_number(line: &[u8], n: u8) -> bool {
+    let digits = [48 + n / 10 % 10, 48 + n % 10, 10];
+    if n < 10 {
+        return line.len() == 2 && starts_with_bytes(line, &digits[1..3]);
+    }
+    line.len() == 3 && starts_with_bytes(line, &digits)
+}
+
+// Whether a text is the line of the refusal `n`.
+fn is_refusal(text: &[u8], n: u8) -> bool {
+    if text.len() < 8 {
+        return false;
+    }
+    if !starts_with_bytes(text, b"refused ") {
+        return false;
+    }
+    is_number(&text[8..text.len()], n)
+}
+
+// Whether the listing program would print the refusal `n`, and nothing else.
 fn report_refuses(image: &[u8], n: u8) -> bool {
     let mut out = [0u8; 73745];
     let size = report::report(image, &mut out);
-    if !starts_with_bytes(&out[0..size], b"refused ") {
-        return false;
-    }
-    if n < 10 {
-        return size == 10;
-    }
-    size == 11
+    is_refusal(&out[0..size], n)
 }
 
 // Whether every job refuses the image with `n`, and leaves the buffers as lent.
