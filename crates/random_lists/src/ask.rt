@@ -71,7 +71,7 @@ pub fn whole(tally: Tally, keys: &[u32], image: &[u8]) -> Tally {
 }
 
 // Whether a key is the one of this rank.
-fn is_at(keys: &[u32], rank: usize, key: u32) -> bool {
+pub fn is_at(keys: &[u32], rank: usize, key: u32) -> bool {
     if rank < keys.len() {
         return keys[rank] == key;
     }

@@ -16,7 +16,7 @@ fn read(tally: Tally, keys: &[u32], image: &[u8], seed: Random) -> Tally {
     let mut t = ask::whole(tally, keys, image);
     t = ask::ask(t, keys, image, seed);
     t = pairs::pairs(t, keys, image, seed);
-    scans::scans(t, image, seed)
+    scans::scans(t, keys, image, seed)
 }
 
 // The same, and its damaged images.

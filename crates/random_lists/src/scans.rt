@@ -1,6 +1,6 @@
-// Long rows of scans, against a plain rule of the gate.
+// Long rows of scans, against a plain rule of the gate: each answer, and after it every record.
 use crate::ask::at_rank;
-use crate::ask::member_count;
+use crate::ask::is_at;
 use crate::ask::pick;
 use crate::tally::SCANS;
 use crate::tally::Tally;
@@ -8,22 +8,51 @@ use crate::tally::expect;
 use gate::Scanned;
 use testing::Random;
 use testing::one_more;
-use testing::whole_square;
+use testing::starts_with;
 
-const LOCKOUT: u32 = 100;
+// A card at the gate.
+struct Card {
+    holder: u16,
+    slot: u16,
+    time: u32,
+    lockout: u32,
+}
 
 // The number of the refusal that a record asks for, or 0.
-fn due(record: u32, time: u32) -> u8 {
+fn due(record: u32, card: Card) -> u8 {
     if record == 0 {
         return 0;
     }
-    let now = time as u64 + 1;
+    let now = card.time as u64 + 1;
     if now < record as u64 {
         return 25;
     }
-    if now < record as u64 + LOCKOUT as u64 {
+    if now < record as u64 + card.lockout as u64 {
         return 26;
     }
+    0
+}
+
+// The rank that the plain reader finds; 65,536 for a card that is not listed.
+fn rank_of(keys: &[u32], card: Card) -> usize {
+    let key = testing::key_of(card.holder, card.slot);
+    let rank = testing::rank_of(keys, keys.len(), key);
+    if is_at(keys, rank, key) { rank } else { 65536 }
+}
+
+// The plain rule: the number of the refusal, or 0 and the opening is recorded.
+fn rule(records: &mut [u32], rank: usize, card: Card) -> u8 {
+    if records.len() <= rank {
+        return 24;
+    }
+    let refusal = due(records[rank], card);
+    if refusal != 0 {
+        return refusal;
+    }
+    let last = records.len() - 1;
+    let openings = records[last];
+    records[last] = one_more(openings);
+    records[rank] = one_more(card.time);
     0
 }
 
@@ -34,56 +63,37 @@ fn is_answer(scanned: Scanned, refusal: u8, rank: usize) -> bool {
     }
 }
 
-// Whether the record and the openings are right after a scan.
-fn is_recorded(records: &[u32], rank: usize, record: u32, openings: u32) -> bool {
-    if records.len() <= rank {
-        return false;
-    }
-    records[rank] == record && records[records.len() - 1] == openings
-}
-
-// Whether a scan of the admission of a rank gets its answer.
-fn is_scanned(image: &[u8], records: &mut [u32], rank: usize, time: u32, refusal: u8) -> bool {
-    let a = at_rank(image, rank);
-    let scanned = gate::scan(image, records, a.holder, a.slot, time, LOCKOUT);
+// Whether a scan gets the rule's answer.
+fn is_scanned(image: &[u8], records: &mut [u32], card: Card, rank: usize, refusal: u8) -> bool {
+    let scanned = gate::scan(
+        image,
+        records,
+        card.holder,
+        card.slot,
+        card.time,
+        card.lockout,
+    );
     is_answer(scanned, refusal, rank)
 }
 
-// Whether a scan gets its answer and leaves its records. The record and the openings before it are given.
+// Whether a scan gets the rule's answer, and leaves the records that the rule leaves.
 fn is_right(
+    keys: &[u32],
     image: &[u8],
     records: &mut [u32],
-    rank: usize,
-    time: u32,
-    record: u32,
-    openings: u32,
+    expected: &mut [u32],
+    card: Card,
 ) -> bool {
-    let refusal = due(record, time);
-    if !is_scanned(image, records, rank, time, refusal) {
+    let rank = rank_of(keys, card);
+    let refusal = rule(expected, rank, card);
+    if !is_scanned(image, records, card, rank, refusal) {
         return false;
     }
-    if refusal == 0 {
-        return is_recorded(records, rank, one_more(time), one_more(openings));
-    }
-    is_recorded(records, rank, record, openings)
-}
-
-// One scan of the admission of a rank.
-fn scan(tally: Tally, image: &[u8], records: &mut [u32], rank: usize, time: u32) -> Tally {
-    if records.len() <= rank {
-        return tally;
-    }
-    let record = records[rank];
-    let openings = records[records.len() - 1];
-    expect(
-        tally,
-        SCANS,
-        is_right(image, records, rank, time, record, openings),
-    )
+    starts_with(records, expected)
 }
 
 // A rank, two in three times one of the first four, so that some are scanned often.
-fn rank_of(random: Random, keys: usize) -> usize {
+fn often(random: Random, keys: usize) -> usize {
     let rank = pick(random, keys);
     if rank % 3 == 0 { rank } else { rank % 4 }
 }
@@ -93,30 +103,70 @@ fn time_of(turn: u32, random: Random) -> u32 {
     20 * (turn % 1000) + (pick(random, 300) % 300) as u32
 }
 
+// Mostly 100 seconds; now and then none, or the longest.
+fn lockout_of(turn: u32) -> u32 {
+    if turn % 7 == 6 {
+        return 0;
+    }
+    if turn % 11 == 10 {
+        return 4294967295;
+    }
+    100
+}
+
+// The slot, or on each fifth turn one beside it, which may not be listed.
+fn slot_of(slot: u16, turn: u32) -> u16 {
+    if turn % 5 == 4 { slot ^ 4 } else { slot }
+}
+
+// The card of a rank, or one beside it.
+fn card_of(image: &[u8], rank: usize, turn: u32, random: Random) -> Card {
+    let a = at_rank(image, rank);
+    Card {
+        holder: a.holder,
+        slot: slot_of(a.slot, turn),
+        time: time_of(turn, random),
+        lockout: lockout_of(turn),
+    }
+}
+
 // 150 scans, at times that mostly rise.
-fn scan_row(tally: Tally, image: &[u8], records: &mut [u32], keys: usize, seed: Random) -> Tally {
+fn scan_row(
+    tally: Tally,
+    keys: &[u32],
+    image: &[u8],
+    records: &mut [u32],
+    expected: &mut [u32],
+    seed: Random,
+) -> Tally {
     let mut t = tally;
     let mut random = seed;
     let mut i: u32 = 0;
     while i < 150 {
         random = testing::next(random);
-        let rank = rank_of(random, keys);
+        let rank = often(random, keys.len());
         random = testing::next(random);
-        t = scan(t, image, records, rank, time_of(i, random));
+        let card = card_of(image, rank, i, random);
+        t = expect(t, SCANS, is_right(keys, image, records, expected, card));
         i += 1;
     }
     t
 }
 
 // The same with records that were never opened.
-pub fn scans(tally: Tally, image: &[u8], seed: Random) -> Tally {
+pub fn scans(tally: Tally, keys: &[u32], image: &[u8], seed: Random) -> Tally {
     let mut records = [0u32; 4097];
-    let keys = member_count(query::count(image, whole_square()));
-    if 4096 < keys {
+    let mut expected = [0u32; 4097];
+    if 4096 < keys.len() {
         return expect(tally, SCANS, false);
     }
-    if keys == 0 {
-        return tally;
-    }
-    scan_row(tally, image, &mut records[0..keys + 1], keys, seed)
+    let n = keys.len() + 1;
+    scan_row(
+        tally,
+        keys,
+        image,
+        &mut records[0..n],
+        &mut expected[0..n],
+        seed,
+    )
 }

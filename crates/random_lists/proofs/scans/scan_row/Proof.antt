@@ -7,12 +7,27 @@ use Rattle.random_lists.proofs.scans.scan_row.Statement.{statement}
 use Rattle.random_lists.proofs.scans.scan_row.Tie as tie
 
 abbrev Inv-loop : tie.InvT-loop
-Inv-loop image records₀ keys t₀ random₀ i₀ records t random i = (i ≤ 150) × (length records ≡ length records₀)
+Inv-loop keys image records₀ expected₀ t₀ random₀ i₀ records expected t random i = (i ≤ 150) × (length records ≡ length records₀) × (length expected ≡ length expected₀)
 
 abbrev μ-loop : tie.MeasureT-loop
-μ-loop image records₀ keys t₀ random₀ i₀ records t random i = 150 - i
+μ-loop keys image records₀ expected₀ t₀ random₀ i₀ records expected t random i = 150 - i
 
 pub scan-row-spec : {M : Type 1} → statement M
 scan-row-spec =
     tie.close
-    (tie.spec Inv-loop μ-loop (λ c. search needs) (λ c κs. search needs) (λ c κs. search needs) (λ c κs. search needs) (λ c κs. search needs) (λ c κs. search needs) (λ c. search needs) (λ c. search needs) (λ c. search needs) (λ c. search needs) (λ c. search needs))
+    (tie.spec
+    Inv-loop
+    μ-loop
+    (λ c. search needs)
+    (λ c κs. search needs)
+    (λ c κs. search needs)
+    (λ c κs. search needs)
+    (λ c κs. search needs)
+    (λ c κs. search needs)
+    (λ c κs. search needs)
+    (λ c. search needs)
+    (λ c. search needs)
+    (λ c. search needs)
+    (λ c. search needs)
+    (λ c. search needs)
+    (λ c. search needs))
