@@ -153,8 +153,8 @@ fn seek(image: &[u8], state: &mut [usize; 64], number: usize, root: Root)
     store(state, number, found);
 }
 
-// The subtrie of a root, from where the reading of its band stands if that is the root. The spot is loaded after a seek, and not handed on by it, and a
-// seek called in two places is not compiled into the common way: both keep few numbers alive there.
+// The subtrie of a root, from where the reading of its band stands if that is the root. The spot is loaded after a seek, and not handed on by it, and
+// both are called in two places, so that neither is compiled in here and this function is compiled into the loops that call it.
 pub fn next_subtrie(image: &[u8], state: &mut [usize; 64], number: usize, root: Root) -> Subtrie
     requires { ⌜ (Ready (now image)) × (1 ≤ number) × (number ≤ 8) × (root .0 < rootCount (now image) number) × (Spots (now image) (now state)) ⌝ }
     ensures { λ r. ⌜ (SubtrieRead (now (image .entry)) number (rootPrefix (now (image .entry)) number (root .0)) (r .set) (r .link .0)) × (Spots (now (image .entry)) (now (state .exit))) ⌝ }
@@ -162,7 +162,9 @@ pub fn next_subtrie(image: &[u8], state: &mut [usize; 64], number: usize, root: 
     let e = 8 * (number - 1);
     if state[e] != root.0 {
         seek(image, state, number, root);
-    } else if state[e + 1] <= root.0 {
+        return advance(image, state, number);
+    }
+    if state[e + 1] <= root.0 {
         seek(image, state, number, root);
     }
     advance(image, state, number)

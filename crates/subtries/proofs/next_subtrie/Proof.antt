@@ -14,27 +14,41 @@ use Rattle.subtries.proofs.next_subtrie.Tie as tie
 abbrev Standing : List ℕ → List ℕ → ℕ → ℕ → Type 0
 Standing img state b root = (Spots img state) × (rootIn state b ≡ root) × (root < endIn state b)
 
-standing : (c : tie.Joined1) → let p = c .before .before .before .before in Standing (p .args .image .now) (c .if1 .state) (p .args .number) (p .args .root .0)
+-- after both tests
+standing : (c : tie.Joined2) → let q = c .before .before .before .before .before .before .before in Standing (q .args .image .now) (c .if2 .state) (q .args .number) (q .args .root .0)
 standing c =
-    let q = c .before .before .before .before in
+    let q = c .before .before .before .before .before .before .before in
+    let at : List ℕ → Type 0 = λ l. Standing (q .args .image .now) l (q .args .number) (q .args .root .0) in
     ⊎-elim
-    (λ w. subst (λ (l : List ℕ). Standing (q .args .image .now) l (q .args .number) (q .args .root .0)) (sym (w .3)) (w .2 .ensures))
-    (⊎-elim
-    (λ w. subst (λ (l : List ℕ). Standing (q .args .image .now) l (q .args .number) (q .args .root .0)) (sym (w .6)) (w .5 .ensures))
-    (λ w. let p = q .pre in subst (λ (l : List ℕ). Standing (q .args .image .now) l (q .args .number) (q .args .root .0)) (sym (w .4)) (p .4, omega (arith, w .0 .left), omega (arith, w .3 .left))))
-    (c .if1 .came)
+    (λ w. subst at (sym (w .3)) (w .2 .ensures))
+    (λ w. subst at (sym (w .1)) (q .pre .4, omega (arith, c .before .before .before .if1 .left), omega (arith, w .0 .left)))
+    (c .if2 .came)
+
+-- the subtrie at the root where the reading stands is the root's
+same-root : (img : List ℕ) (b : ℕ) {n root set link : ℕ} → n ≡ root → SubtrieRead img b (rootPrefix img b n) set link → SubtrieRead img b (rootPrefix img b root) set link
+same-root img b {n} {root} {set} {link} e r = subst (λ (m : ℕ). SubtrieRead img b (rootPrefix img b m) set link) e r
 
 advance-requires : tie.Need-advance-requires
 advance-requires c κs =
-    let p = c .before .before .before .before .before .pre in
-    let s = standing (c .before) in
+    let p = c .before .before .before .before .before .before .before .pre in
+    let s = c .before .seek .ensures in
     (p .0, p .1, p .2, s .0, omega (arith, s .1, s .2))
 
 returns : tie.Need-returns
 returns c =
-    let q = c .before .before .before .before .before .before in
-    let s = standing (c .before .before) in
-    (subst (λ (n : ℕ). SubtrieRead (q .args .image .now) (q .args .number) (rootPrefix (q .args .image .now) (q .args .number) n) (c .advance .result .set) (c .advance .result .link .0)) (s .1) (c .advance .ensures .0), c .advance .ensures .1)
+    let a = c .before .before .before .before .before .before .before .before .args in
+    (same-root (a .image .now) (a .number) (c .before .before .seek .ensures .1) (c .advance .ensures .0), c .advance .ensures .1)
+
+advance-requires-2 : tie.Need-advance-requires-2
+advance-requires-2 c κs =
+    let p = c .before .before .before .before .before .before .before .before .pre in
+    let s = standing (c .before) in
+    (p .0, p .1, p .2, s .0, omega (arith, s .1, s .2))
+
+returns-2 : tie.Need-returns-2
+returns-2 c =
+    let a = c .before .before .before .before .before .before .before .before .before .args in
+    (same-root (a .image .now) (a .number) (standing (c .before .before) .1) (c .advance2 .ensures .0), c .advance2 .ensures .1)
 
 pub next-subtrie-spec : {M : Type 1} → statement M
 next-subtrie-spec =
@@ -44,10 +58,12 @@ next-subtrie-spec =
     (λ c. search needs)
     (λ c. search needs)
     (λ c. search needs)
-    (λ c. search needs)
+    (λ c κs. search needs)
+    advance-requires
+    returns
     (λ c. search needs)
     (λ c. search needs)
     (λ c. search needs)
     (λ c κs. search needs)
-    advance-requires
-    returns)
+    advance-requires-2
+    returns-2)
