@@ -21,14 +21,14 @@ fn ones_of(w: u64) -> u16
     u64::count_ones(w) as u16
 }
 
-// A count as a number of the width of a place.
+// A count as a `usize`, as places are.
 pub fn wide(x: u16) -> usize
     ensures { λ r. ⌜ (r ≡ x) × (r < 65536) ⌝ }
 {
     x as usize
 }
 
-// The number of set bits of `w`, as a number of the width of a place.
+// The number of set bits of `w`, as a `usize`.
 pub fn ones_in(w: u64) -> usize
     ensures { λ r. ⌜ (r ≡ ones w) × (r ≤ 64) ⌝ }
 {

@@ -12,11 +12,15 @@ use Rattle.format.proofs.Walk.{outLink, Reached, reached-root, reached-place}
 use Rattle.nodes.specs.Words.{onesBefore}
 use Rattle.pages.specs.declared.Page.{Page}
 use Rattle.pages.specs.Page.{Ready, PageRead, childIn}
-use Rattle.subtries.specs.Subtrie.{startIn}
+use Rattle.subtries.specs.Subtrie.{startIn, SubtrieRead}
 use Rattle.pages.proofs.Pages.{bytes, checked}
 use Rattle.pages.proofs.Follow.{page-small, page-child}
-use Rattle.subtries.specs.Spot.{LevelStart}
+use Rattle.subtries.specs.Spot.{LevelStart, rootPrefix}
 use Rattle.subtries.proofs.Starts.{start-next, start-past, start-out}
+
+-- what is read of a root is read of the same root by another name
+pub read-same : (img : List ℕ) (b : ℕ) {m n set link : ℕ} → m ≡ n → SubtrieRead img b (rootPrefix img b m) set link → SubtrieRead img b (rootPrefix img b n) set link
+read-same img b {m} {n} {set} {link} e r = subst (λ (k : ℕ). SubtrieRead img b (rootPrefix img b k) set link) e r
 
 module _ {img : List ℕ} {page : Page} (r : Ready img) (d : PageRead img page) {n : ℕ} (from : page .t ≤ n) (to : n < page .t + page .roots) where
   pub root-way : Reached img (page .band) (page .index) 0 (n - page .t) n (getD (prefixesAt img (4 * (page .band - 1))) n 0)

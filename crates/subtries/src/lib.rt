@@ -1,5 +1,5 @@
-// Where the reading of each band stands. A walk reads the subtries of a band from left to right: the next one of a page is read from where the last one
-// ended, and a page is looked for only where the walk leaves the one that it is in.
+// The subtries of an accepted image, as a walk reads them: those of a band from left to right. Where the reading of each band stands is kept, so that the
+// next subtrie of a page is read from where the last one ended, and a page is looked for only where the walk leaves the one that it is in.
 mod level;
 mod skip;
 mod state;

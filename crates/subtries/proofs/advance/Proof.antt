@@ -9,6 +9,7 @@ use Rattle.subtries.specs.Subtrie.{SubtrieRead}
 use Rattle.subtries.proofs.Kept.{spots-move}
 use Rattle.subtries.proofs.Single.{path-read, path-next}
 use Rattle.subtries.proofs.Spots.{bytes-fit, part-is, part-length, start-fits, room₁, room₂, room₃, subtrie-read, next-spot, root-small, link-small}
+use Rattle.subtries.proofs.Subtries.{read-same}
 use Rattle.subtries.proofs.advance.Statement.{statement}
 use Rattle.subtries.proofs.advance.Tie as tie
 
@@ -20,9 +21,7 @@ here q = let p = q .before .before .before .pre in subst (SpotAt _ _) (sym (q .l
 same-root : (q : tie.After-load) {set link : ℕ} → let a = q .before .before .before .args in
     SubtrieRead (a .image .now) (a .number) (rootPrefix (a .image .now) (a .number) (q .load .result .root .0)) set link
     → SubtrieRead (a .image .now) (a .number) (rootPrefix (a .image .now) (a .number) (rootIn (a .state .now) (a .number))) set link
-same-root q {set} {link} s =
-    let a = q .before .before .before .args in
-    subst (λ (n : ℕ). SubtrieRead (a .image .now) (a .number) (rootPrefix (a .image .now) (a .number) n) set link) (ap (λ (t : Spot). t .root .0) (q .load .ensures)) s
+same-root q s = let a = q .before .before .before .args in read-same (a .image .now) (a .number) (ap (λ (t : Spot). t .root .0) (q .load .ensures)) s
 
 add-bytes : tie.Need-add-bytes
 add-bytes c =

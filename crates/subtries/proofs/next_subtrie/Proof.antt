@@ -5,8 +5,8 @@ use mathlib.Core.Path.{_≡_, sym, subst}
 use Prim.Native.Nat.{ℕ, _<_}
 use native.Mathlib.Omega.{arith}
 use borrow.Author.Needs.{needs}
-use Rattle.subtries.specs.Spot.{Spots, endIn, rootIn, rootPrefix}
-use Rattle.subtries.specs.Subtrie.{SubtrieRead}
+use Rattle.subtries.specs.Spot.{Spots, endIn, rootIn}
+use Rattle.subtries.proofs.Subtries.{read-same}
 use Rattle.subtries.proofs.next_subtrie.Statement.{statement}
 use Rattle.subtries.proofs.next_subtrie.Tie as tie
 
@@ -24,10 +24,6 @@ standing c =
     (λ w. subst at (sym (w .1)) (q .pre .4, omega (arith, c .before .before .before .if1 .left), omega (arith, w .0 .left)))
     (c .if2 .came)
 
--- the subtrie at the root where the reading stands is the root's
-same-root : (img : List ℕ) (b : ℕ) {n root set link : ℕ} → n ≡ root → SubtrieRead img b (rootPrefix img b n) set link → SubtrieRead img b (rootPrefix img b root) set link
-same-root img b {n} {root} {set} {link} e r = subst (λ (m : ℕ). SubtrieRead img b (rootPrefix img b m) set link) e r
-
 advance-requires : tie.Need-advance-requires
 advance-requires c κs =
     let p = c .before .before .before .before .before .before .before .pre in
@@ -37,7 +33,7 @@ advance-requires c κs =
 returns : tie.Need-returns
 returns c =
     let a = c .before .before .before .before .before .before .before .before .args in
-    (same-root (a .image .now) (a .number) (c .before .before .seek .ensures .1) (c .advance .ensures .0), c .advance .ensures .1)
+    (read-same (a .image .now) (a .number) (c .before .before .seek .ensures .1) (c .advance .ensures .0), c .advance .ensures .1)
 
 advance-requires-2 : tie.Need-advance-requires-2
 advance-requires-2 c κs =
@@ -48,7 +44,7 @@ advance-requires-2 c κs =
 returns-2 : tie.Need-returns-2
 returns-2 c =
     let a = c .before .before .before .before .before .before .before .before .before .args in
-    (same-root (a .image .now) (a .number) (standing (c .before .before) .1) (c .advance2 .ensures .0), c .advance2 .ensures .1)
+    (read-same (a .image .now) (a .number) (standing (c .before .before) .1) (c .advance2 .ensures .0), c .advance2 .ensures .1)
 
 pub next-subtrie-spec : {M : Type 1} → statement M
 next-subtrie-spec =
