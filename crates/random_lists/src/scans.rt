@@ -93,7 +93,7 @@ fn is_right(
 }
 
 // A rank, two in three times one of the first four, so that some are scanned often.
-fn often(random: Random, keys: usize) -> usize {
+fn pick_rank(random: Random, keys: usize) -> usize {
     let rank = pick(random, keys);
     if rank % 3 == 0 { rank } else { rank % 4 }
 }
@@ -144,7 +144,7 @@ fn scan_row(
     let mut i: u32 = 0;
     while i < 150 {
         random = testing::next(random);
-        let rank = often(random, keys.len());
+        let rank = pick_rank(random, keys.len());
         random = testing::next(random);
         let card = card_of(image, rank, i, random);
         t = expect(t, SCANS, is_right(keys, image, records, expected, card));

@@ -1,10 +1,11 @@
 // What the test programs count and compare with.
-ghost use Prim.Native.Nat.{_≤_};
+ghost use mathlib.Core.Path.{_≡_};
+ghost use Prim.Native.Nat.{_+_, _≤_, min};
 ghost use lib.ListN.{length};
 
 // One more; the last number stays.
 pub fn one_more(n: u32) -> u32
-    ensures { λ r. ⌜ n ≤ r ⌝ }
+    ensures { λ r. ⌜ r ≡ min (n + 1) 4294967295 ⌝ }
 {
     if n < 4294967295 { n + 1 } else { n }
 }
