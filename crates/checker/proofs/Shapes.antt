@@ -15,7 +15,7 @@ use Rattle.format.specs.Page.{Byte, firstSubtries, nodeCount}
 use Rattle.format.specs.Question.{firstNo, isPositive, isZero}
 use Rattle.format.proofs.Lists.{all-drop, and-right, every-all}
 use Rattle.format.proofs.Bytes.{length-levelsIn, levels-shape}
-use Rattle.format.proofs.Subtries.{first-shape, length-first, page-roots}
+use Rattle.format.proofs.Subtries.{first-shape, length-first, node-bounds}
 use Rattle.format.proofs.Counting.{marks, marks-add, marks-mono, thirdAt, fourthAt, nodes-counted, links-counted, subtrie-counted, every-flatten, flatten-levels}
 use Rattle.nodes.specs.declared.Words.{Words}
 use Rattle.nodes.specs.Words.{wordsOf, onesBefore, noneEmpty, restEmpty}
@@ -258,7 +258,7 @@ module _ {img : List ℕ} {at r : ℕ} {w : Words} {a b c all : ℕ} (e : Ended 
       let shape = levels-shape 4 r ps (nodes-small img (k .small) at (k .fits)) (omega (arith, e .before .nodes-are, e .fits, length-nodes img (k .small) at (k .fits)))
       (every-all (every isPositive) (levels ps r) (e .positive)) in
       shaped v
-      (omega (arith, page-roots 1 (firstSubtries 1 (levels ps r)) (length-first 1 (levels ps r) ∙ length-levelsIn 4 r ps) (first-shape 1 r (levels ps r) (k .some-roots) shape)))
+      (omega (arith, node-bounds 1 (firstSubtries 1 (levels ps r)) (length-first 1 (levels ps r) ∙ length-levelsIn 4 r ps) (first-shape 1 r (levels ps r) (k .some-roots) shape)))
 
   module _ (f x y : ℕ) (ef : (f ≡ marks (pairsAt img at) 1) × (f ≤ 2)) (ex : (x ≡ marks (pairsAt img at) (r + f)) × (a ≤ x) × (x - a ≤ 4))
       (ey : (y ≡ marks (pairsAt img at) (r + a + (x - a))) × (b ≤ y) × (y - b ≤ 8)) where

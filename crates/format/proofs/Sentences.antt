@@ -13,7 +13,7 @@ use Rattle.format.specs.Image.{keyCount, keysOf, pageCount, pageRoots, p
 use Rattle.format.specs.Answer.{inside, memberKeys}
 use Rattle.format.specs.Exact.{Accepted}
 use Rattle.format.proofs.Trie.{Asc, Shape}
-use Rattle.format.proofs.Subtries.{first-shape, length-first, page-roots, subtrie-small}
+use Rattle.format.proofs.Subtries.{first-shape, length-first, node-bounds}
 use Rattle.format.proofs.Members.{select-asc}
 use Rattle.format.proofs.Checked.{Checked}
 use Rattle.format.proofs.Descent.{rank-at}
@@ -24,9 +24,8 @@ use Rattle.format.proofs.Accepted.{facts}
 -- "a root and all below it in its band is a subtrie: 4 to 15 nodes"
 pub subtrie-size : (r : ℕ) (band : List (List ℕ)) → length band ≡ 4 → Shape r band → 1 ≤ r → (4 ≤ nodeCount 1 (firstSubtries 1 band)) × (nodeCount 1 (firstSubtries 1 band) ≤ 15)
 subtrie-size r band four s some =
-    let e = length-first 1 band ∙ four in
-    let f = first-shape 1 r band some s in
-    (omega (arith, page-roots 1 (firstSubtries 1 band) e f), subtrie-small (firstSubtries 1 band) e f)
+    let n = node-bounds 1 (firstSubtries 1 band) (length-first 1 band ∙ four) (first-shape 1 r band some s) in
+    (omega arith, omega arith)
 
 -- the keys of an accepted image ascend, and so do the members of a rectangle
 pub keys-ascend : (img : List ℕ) → Accepted img → Asc (keysOf img)

@@ -4,7 +4,7 @@ use mathlib.Core.Path.{_≡_, refl, sym, ap, ap₂, _∙_}
 use mathlib.Core.List.{List, [], _∷_, _++_}
 use Prim.Native.Nat.{ℕ, zero, suc, _+_, _-_, _*_, _≤_}
 use native.Mathlib.Omega.{arith}
-use lib.ListN.{length, take, drop, length-append, length-take, length-drop, take-append-drop}
+use lib.ListN.{length, getD, take, drop, length-append, length-take, length-drop, take-append-drop}
 use lib.Seq.{take-append-le, drop-append-le, take-at, drop-at}
 use Rattle.format.specs.Seq.{All, total}
 use Rattle.format.specs.Trie.{onBits}
@@ -148,27 +148,31 @@ nodeCount-parts k r v h =
     sym (nodeCount-beside k (r - k) (firstSubtries k v) (laterSubtries k v) (length-first k v ∙ sym (length-later k v)))
     ∙ ap₂ nodeCount (omega arith) (beside-parts k v)
 
--- a subtrie has at most 15 nodes
-pub subtrie-small : (v : List (List ℕ)) → length v ≡ 4 → Shape 1 v → nodeCount 1 v ≤ 15
-unfolding nodeCount
-subtrie-small [] e s = absurd (omega arith)
-subtrie-small (a ∷ []) e s = absurd (omega arith)
-subtrie-small (a ∷ b ∷ []) e s = absurd (omega arith)
-subtrie-small (a ∷ b ∷ c ∷ []) e s = absurd (omega arith)
-subtrie-small (a ∷ b ∷ c ∷ d ∷ []) e s =
-    omega (arith, s .0, s .2 .0, s .2 .2 .0, onBits-bounds a (s .1), onBits-bounds b (s .2 .1), onBits-bounds c (s .2 .2 .1))
-subtrie-small (a ∷ b ∷ c ∷ d ∷ x ∷ v) e s = absurd (omega arith)
+-- Four levels of r roots: each root has 4 to 15 nodes and at most 16 out-links, and there are at most four nodes for each out-link.
+pub record NodeBounds (r nodes links : ℕ) : Type 0 where
+  pub least : 4 * r ≤ nodes
+  pub most : nodes ≤ 15 * r
+  pub by-links : nodes ≤ 4 * links
+  pub links-most : links ≤ 16 * r
 
--- a page of r roots has at least 4 nodes for each
-pub page-roots : (r : ℕ) (v : List (List ℕ)) → length v ≡ 4 → Shape r v → 4 * r ≤ nodeCount r v
+pub node-bounds : (r : ℕ) (v : List (List ℕ)) → length v ≡ 4 → Shape r v → NodeBounds r (nodeCount r v) (onBits (getD v 3 []))
 unfolding nodeCount
-page-roots r [] e s = absurd (omega arith)
-page-roots r (a ∷ []) e s = absurd (omega arith)
-page-roots r (a ∷ b ∷ []) e s = absurd (omega arith)
-page-roots r (a ∷ b ∷ c ∷ []) e s = absurd (omega arith)
-page-roots r (a ∷ b ∷ c ∷ d ∷ []) e s =
-    omega (arith, s .0, s .2 .0, s .2 .2 .0, onBits-bounds a (s .1), onBits-bounds b (s .2 .1), onBits-bounds c (s .2 .2 .1))
-page-roots r (a ∷ b ∷ c ∷ d ∷ x ∷ v) e s = absurd (omega arith)
+node-bounds r [] e s = absurd (omega arith)
+node-bounds r (a ∷ []) e s = absurd (omega arith)
+node-bounds r (a ∷ b ∷ []) e s = absurd (omega arith)
+node-bounds r (a ∷ b ∷ c ∷ []) e s = absurd (omega arith)
+node-bounds r (a ∷ b ∷ c ∷ d ∷ []) e s =
+    let ha = onBits-bounds a (s .1) in
+    let hb = onBits-bounds b (s .2 .1) in
+    let hc = onBits-bounds c (s .2 .2 .1) in
+    let hd = onBits-bounds d (s .2 .2 .2 .1) in
+    record {
+      least = omega (arith, s .0, s .2 .0, s .2 .2 .0, ha, hb, hc);
+      most = omega (arith, s .0, s .2 .0, s .2 .2 .0, ha, hb, hc);
+      by-links = omega (arith, s .0, s .2 .0, s .2 .2 .0, s .2 .2 .2 .0, ha, hb, hc, hd);
+      links-most = omega (arith, s .0, s .2 .0, s .2 .2 .0, s .2 .2 .2 .0, ha, hb, hc, hd);
+    }
+node-bounds r (a ∷ b ∷ c ∷ d ∷ x ∷ v) e s = absurd (omega arith)
 
 -- ---- the sizes of subtries
 
@@ -201,6 +205,6 @@ pub sizes-small : (r : ℕ) (v : List (List ℕ)) → length v ≡ 4 → Shape r
 unfolding subtrieSizes
 sizes-small zero v e s = tt
 sizes-small (suc r) v e s = (
-  omega (arith, subtrie-small (firstSubtries 1 v) (length-first 1 v ∙ e) (first-shape 1 (suc r) v (omega arith) s)),
+  omega (arith, node-bounds 1 (firstSubtries 1 v) (length-first 1 v ∙ e) (first-shape 1 (suc r) v (omega arith) s)),
   sizes-small r (laterSubtries 1 v) (length-later 1 v ∙ e) (later-one r v s),
 )

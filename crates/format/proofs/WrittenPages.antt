@@ -18,7 +18,7 @@ use Rattle.format.specs.Image.{nextT, outLinkCount, pageB, pageCount, pa
 use Rattle.format.specs.Question.{isPositive, isZero}
 use Rattle.format.specs.Writer.{bandBytes, pageBytes, rootsIn}
 use Rattle.format.proofs.Lists.{every-all}
-use Rattle.format.proofs.Subtries.{page-roots}
+use Rattle.format.proofs.Subtries.{node-bounds}
 use Rattle.format.proofs.Pages.{Page, Paged, Follows, glue, glue-roots}
 use Rattle.format.proofs.Bytes.{number-of, length-nodeBytes, pairs-back, levels-found, length-flatten, nodes-flatten, shape-positive, zero-all, zeros-all, length-pageBytes}
 use Rattle.format.proofs.Checked.{HeadRight, PageNeeded, PageOk, cond-yes, cond-no}
@@ -141,7 +141,7 @@ ok-at img b i t o p ps g h e =
     record {
       counters = counters-at img b i t o p ps h e;
       some-roots = rw (h .roots-is) (g .some-roots);
-      few-roots = omega (arith, h .roots-is, page-roots (rootsIn p) p (g .four) (g .shape), g .fits);
+      few-roots = omega (arith, h .roots-is, node-bounds (rootsIn p) p (g .four) (g .shape), g .fits);
       within = rw (h .nodes-are) (g .fits);
       positive = rw (h .levels-are) (every-all (every isPositive) p (shape-positive (rootsIn p) p (g .shape)));
       zeros = h .rest;

@@ -12,7 +12,7 @@ use Rattle.format.specs.Page.{firstSubtries, nodeCount}
 use Rattle.format.specs.Trie.{parents, levelsOver, onBits}
 use Rattle.format.specs.Writer.{pagesOf, rootsIn}
 use Rattle.format.proofs.Trie.{Asc, Shape}
-use Rattle.format.proofs.Subtries.{subtrie-small}
+use Rattle.format.proofs.Subtries.{node-bounds}
 use Rattle.format.proofs.RunHeads.{heads, heads-of, Parted}
 use Rattle.format.proofs.Runs.{bandOver, band-four, band-shape, band-roots, band-links, band-nodes, band-nodes-append, band-none, pages-first, pages-last, pages-none, first-run}
 use Rattle.packing.specs.Run.{bandAbove, rootsAbove}
@@ -71,7 +71,7 @@ module _ (x z : ℕ) (l : List ℕ) (r : Run x z l) where
     one-count = let k : rootsIn (bandAbove l) ≡ 1 = roots-are ∙ one in rw k refl
 
     pub one-small : nodesIn l ≤ 15
-    one-small = rw (← one-count) (subtrie-small (bandAbove l) (four l) one-shape)
+    one-small = omega (arith, one-count, node-bounds 1 (bandAbove l) (four l) one-shape)
 
 -- two runs side by side, which have no root in common
 module _ (x z y w : ℕ) (l k : List ℕ) (r : Run x z l) (q : Run y w k) (apart : z / 16 ≡ y / 16 → ⊥) where
