@@ -108,6 +108,16 @@ key-levels (x ∷ xs) a f =
     let t = levels-formed 32 x xs a f in
     record { top = 1; shape = t .shape; last = t .last; is-top = some (omega arith) refl; back = levels-spell 32 x xs a f }
 
+-- they are eight bands that hang together, whose bytes are the image
+pub key-bands : (keys : List ℕ) → Asc keys → Fits 32 keys → length keys ≤ 4096 → Bands (length keys) (bandAt (levelsOf keys))
+key-bands keys a f few =
+    let k = key-levels keys a f in
+    row-bands (levelsOf keys) (k .top) (length keys) (unfold levelsOf in length-levelsOver 32 keys) (k .shape) (k .last) few (k .is-top)
+
+pub image-bytes : (keys : List ℕ) → imageOf keys ≡ bytesOf (length keys) (bandAt (levelsOf keys))
+unfolding imageOf
+image-bytes keys = ap (λ (bs : List (List (List ℕ))). header (length keys) bs ++ flatMap (λ x. bandBytes 0 0 (pagesOf x)) bs) (bandsOf-row keys)
+
 levels-found : (img : List ℕ) (levels : List (List ℕ)) → length levels ≡ 32 → ((b : ℕ) → 1 ≤ b → b ≤ 8 → bandLevels img b ≡ bandAt levels b) → imageLevels img ≡ levels
 unfolding imageLevels bands
 levels-found img levels e h =
@@ -126,19 +136,17 @@ pub record Imaged (keys : List ℕ) : Type 0 where
   pub list : keysOf (imageOf keys) ≡ keys
 
 pub imaged : (keys : List ℕ) → Asc keys → Fits 32 keys → length keys ≤ 4096 → Imaged keys
-unfolding imageOf levelsOf
+unfolding levelsOf
 imaged keys a f few =
-    let k = key-levels keys a f in
     let levels = levelsOf keys in
-    let size : length levels ≡ 32 = length-levelsOver 32 keys in
-    let h : Bands (length keys) (bandAt levels) = row-bands levels (k .top) (length keys) size (k .shape) (k .last) few (k .is-top) in
+    let h = key-bands keys a f few in
     let img : List ℕ = bytesOf (length keys) (bandAt levels) in
-    let is : imageOf keys ≡ img = ap (λ (bs : List (List (List ℕ))). header (length keys) bs ++ flatMap (λ x. bandBytes 0 0 (pagesOf x)) bs) (bandsOf-row keys) in
+    let is = image-bytes keys in
     let p : Parts (length keys) (bandAt levels) img = parts (length keys) (bandAt levels) in
     let b : All Byte img = all-bytes (length keys) (bandAt levels) h in
-    let found : imageLevels img ≡ levels = levels-found img levels size (λ j lo hi. bands-in (length keys) (bandAt levels) h img p j lo hi b) in
+    let found : imageLevels img ≡ levels = levels-found img levels (length-levelsOver 32 keys) (λ j lo hi. bands-in (length keys) (bandAt levels) h img p j lo hi b) in
     record {
       is-accepted = rw is (accepted img (is-checked (length keys) (bandAt levels) h img p));
       bytes = rw is b;
-      list = ap keysOf is ∙ keys-found img keys found (k .back);
+      list = ap keysOf is ∙ keys-found img keys found (key-levels keys a f .back);
     }

@@ -9,7 +9,7 @@ use lib.ListN.{length}
 use native.Mathlib.Omega.{arith}
 use lib.Dec.{eqb}
 use borrow.Author.Tests.{eqb-true, eqb-false, ne-eqb, eq-eqb}
-use Rattle.format.specs.Seq.{consIf}
+use Rattle.format.specs.Seq.{All, consIf}
 use Rattle.format.specs.Trie.{addToFirst, below, bitOf, bits, descend, levelsOver, nodesOver, onBits, parents}
 
 -- every number above x, in ascending order
@@ -135,8 +135,7 @@ descend-snoc ps (l ∷ levels) ns = descend-snoc (below ps l) levels ns
 
 -- the prefixes x ∷ xs fit n bits
 abbrev pub Fits : ℕ → List ℕ → Type 0
-Fits n [] = Unit {0}
-Fits n (x ∷ xs) = (x < 2 ^ n) × Fits n xs
+Fits n xs = All (λ x. x < 2 ^ n) xs
 
 -- the parents of ascending prefixes of n + 1 bits are ascending, have n bits, and begin with the first one's
 pub record Halved (n x : ℕ) (l : List ℕ) : Type 0 where

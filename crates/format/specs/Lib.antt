@@ -11,5 +11,6 @@ pub mod Scan
 pub mod History
 pub mod Text
 pub mod Exact
+pub mod Bounds
 pub mod Flip
 pub mod Plates
