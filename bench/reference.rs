@@ -878,9 +878,6 @@ pub fn write(list: &[Admission], out: &mut [u8]) -> Result<usize, No> {
             settle(b, &mut page, &mut pages, sub[b]);
         }
     }
-    if pages.iter().any(|&p| p > 0xffff) {
-        return Err(No(16));
-    }
     let len = PAGE * (1 + pages.iter().sum::<u32>() as usize);
     if out.len() < len {
         return Err(No(17));

@@ -47,10 +47,9 @@ typedef struct {
 #define LPT_NO_PACKING 12     /* a page was started before it had to be */
 #define LPT_NO_LINKS 13       /* a band's out-links do not fit the band below, or the key count */
 
-/* Refusals of a list, by lpt_write. Number 16 never comes up. */
+/* Refusals of a list, by lpt_write. Number 16 is not used. */
 #define LPT_NO_MORE 14        /* more than 4,096 admissions */
 #define LPT_NO_ORDER 15       /* the keys do not strictly ascend */
-#define LPT_NO_PAGES 16       /* a band's page count does not fit 16 bits */
 #define LPT_NO_ROOM 17        /* the output buffer is too short for the image */
 
 /* Refusals of a rectangle, by lpt_count and lpt_list. */

@@ -2,7 +2,7 @@
 -- Assumes nothing.
 use mathlib.Core.List.{List, _∷_}
 use mathlib.Core.Path.{_≡_}
-use Prim.Native.Nat.{ℕ, _+_, _*_, _%_}
+use Prim.Native.Nat.{ℕ, _+_, _*_, _≤_}
 use lib.IntN.{ℤ, pos, negℤ}
 use Rattle.format.specs.declared.Admission.{Admission}
 use Rattle.format.specs.declared.Rectangle.{Rectangle}
@@ -38,10 +38,10 @@ encodedFind (refused n) = negℤ (pos n)
 abbrev pub rectangleOf : ℕ → ℕ → ℕ → ℕ → Rectangle
 rectangleOf h0 h1 s0 s1 = record { holders = record { low = h0; high = h1 }; slots = record { low = s0; high = s1 } }
 
--- the writer's answer, below 2 ^ 32
-abbrev pub encodedLength : Written → ℤ
-encodedLength (Length n) = pos (n % 4294967296)
-encodedLength (Refused n) = negℤ (pos n)
+-- an answer of the writer whose length, where it has one, is within format's bound
+abbrev pub WithinBound : Written → Type 0
+WithinBound (Length n) = n ≤ 24640
+WithinBound (Refused n) = Unit {0}
 
 -- the writer: what it returns, and the buffer at exit
 pub record WrittenToC (list : List Admission) (buffer : List ℕ) (r : ℤ) (buffer′ : List ℕ) : Type 0 where

@@ -6,7 +6,8 @@ ghost use lib.IntN.{pos, negℤ};
 ghost use Rattle.format.specs.Writer;
 ghost use Rattle.format.specs.Answer;
 ghost use Rattle.format.specs.Scan;
-ghost use Rattle.capi.specs.Encoding.{encoded, encodedLookup, lookupBuffer, encodedFind, rectangleOf, encodedLength, WrittenToC};
+ghost use Rattle.writer.specs.Writer.{outcomeOf};
+ghost use Rattle.capi.specs.Encoding.{encoded, encodedLookup, lookupBuffer, encodedFind, rectangleOf, WithinBound, WrittenToC};
 use checker::Checked;
 use format::Admission;
 use format::Range;
@@ -41,12 +42,13 @@ fn rectangle_of(h0: u16, h1: u16, s0: u16, s1: u16) -> Rectangle
     }
 }
 
-// The writer's answer. An image has fewer bytes than the remainder leaves, so it changes none.
+// The writer's answer.
 fn written(answered: Written) -> i64
-    ensures { λ r. ⌜ r ≡ encodedLength answered ⌝ }
+    requires { ⌜ WithinBound answered ⌝ }
+    ensures { λ r. ⌜ r ≡ encoded (outcomeOf answered) ⌝ }
 {
     match answered {
-        Written::Length(n) => answer(n % 4294967296),
+        Written::Length(n) => answer(n),
         Written::Refused(n) => refusal(n),
     }
 }

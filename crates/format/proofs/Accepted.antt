@@ -1,28 +1,19 @@
 -- What holds of an accepted image: from "the checker returns its key count" to facts that proofs use.
 -- Assumes nothing.
-use mathlib.Core.Path.{_≡_, refl, ap, _∙_}
-use mathlib.Core.Bool.{true}
+use mathlib.Core.Path.{_≡_, refl}
 use mathlib.Core.Option.{Option, none, some}
-use mathlib.Core.List.{List, map}
-use Prim.Native.Nat.{ℕ, _+_, _*_, _≤_}
-use native.Mathlib.Omega.{arith}
-use lib.Dec.{ltb}
-use borrow.Author.Tests.{lt-ltb, le-leb}
-use lib.ListN.{length}
-use Rattle.format.specs.Seq.{every}
-use Rattle.format.specs.Image.{bandLevels, bands, keyCount, keysOf, pageCount}
+use mathlib.Core.List.{List}
+use Prim.Native.Nat.{ℕ, _≤_}
+use Rattle.format.specs.Image.{keyCount, keysOf}
 use Rattle.format.specs.Question.{firstNo, imageQuestions, outcome, returns, settle}
-use Rattle.format.specs.Writer.{bandsOf, imageOf, listQuestions, pagesOf}
+use Rattle.format.specs.Writer.{imageOf, listQuestions}
 use Rattle.format.specs.Answer.{check}
 use Rattle.format.specs.Exact.{Accepted}
-use Rattle.format.proofs.Lists.{all-every, all-map, all-numbers}
-use Rattle.format.proofs.Questions.{none-of-yes}
+use Rattle.format.proofs.Jobs.{list-writable}
 use Rattle.format.proofs.Shapes.{Keys}
 use Rattle.format.proofs.Members.{ascending-of}
-use Rattle.format.proofs.Bytes.{number-small}
 use Rattle.format.proofs.Checked.{AllYes, Checked, checked}
-use Rattle.format.proofs.Read.{band-page-count}
-use Rattle.format.proofs.Back.{listed, bands-of, image-back}
+use Rattle.format.proofs.Back.{listed, image-back}
 
 -- the checker returns the key count exactly when 1 to 13 all get a yes
 pub yes-of-returned : (img : List ℕ) → check img ≡ returns (keyCount img) → AllYes img
@@ -54,26 +45,19 @@ pub record Facts (img : List ℕ) : Type 0 where
   pub few : keyCount img ≤ 4096
   -- the image is the one that the writer gives for its keys
   pub back : imageOf (keysOf img) ≡ img
-  -- 14 to 16 get a yes from its keys
+  -- 14 and 15 get a yes from its keys
   pub writable : firstNo (listQuestions (keysOf img)) ≡ none
 
 pub facts : (img : List ℕ) → Accepted img → Facts img
-unfolding bands pageCount listQuestions
 facts img i =
     let a = yes-of-returned img (i .returned) in
     let c = checked img a in
     let k = listed img (i .bytes) c .keys in
-    let pages-fit : every (λ band. ltb (length (pagesOf band)) 65536) (bandsOf (keysOf img)) ≡ true =
-    ap (every (λ band. ltb (length (pagesOf band)) 65536)) (bands-of img (i .bytes) c)
-    ∙ all-every (λ band. ltb (length (pagesOf band)) 65536) (map (bandLevels img) bands)
-    (all-map (bandLevels img) (λ band. ltb (length (pagesOf band)) 65536 ≡ true) bands
-    (all-numbers (λ b. ltb (length (pagesOf (bandLevels img b))) 65536 ≡ true) 1 8
-    (λ b lo hi. lt-ltb (length (pagesOf (bandLevels img b))) 65536 (rw (band-page-count img (i .bytes) c b lo (omega arith)) (number-small img (4 + 4 * b) (i .bytes)))))) in
     record {
       all-yes = a;
       questions = c;
       keys = k;
       few = c .header .few;
       back = image-back img (i .bytes) c;
-      writable = none-of-yes _ (le-leb (length (keysOf img)) 4096 (rw (k .count-is) (c .header .few)), (ascending-of (keysOf img) (k .asc), (pages-fit, tt)));
+      writable = list-writable (keysOf img) (rw (k .count-is) (c .header .few)) (ascending-of (keysOf img) (k .asc));
     }

@@ -4,10 +4,10 @@
 -- Assumes nothing.
 use mathlib.Core.Path.{_≡_, refl, sym, ap, _∙_, subst}
 use mathlib.Core.Bool.{true}
-use mathlib.Core.List.{List, [], _∷_, map}
-use Prim.Native.Nat.{ℕ, suc, _+_, _-_, _*_, _≤_, _<_}
+use mathlib.Core.List.{List, [], _∷_, map, map-map}
+use Prim.Native.Nat.{ℕ, _+_, _-_, _*_, _≤_, _<_}
 use native.Mathlib.Omega.{arith}
-use borrow.Author.Tests.{le-leb, leb-true}
+use borrow.Author.Tests.{le-leb}
 use lib.ListN.{length, getD}
 use Rattle.format.specs.Seq.{numbersFrom, total}
 use Rattle.format.specs.Key.{woven}
@@ -15,11 +15,11 @@ use Rattle.format.specs.Trie.{levelsOf, onBits}
 use Rattle.format.specs.Page.{firstSubtries, nodeCount}
 use Rattle.format.specs.Image.{bandLevels, bands, keysOf, pageCount}
 use Rattle.format.specs.Question.{Yes}
-use Rattle.format.specs.Writer.{ascending, bandsOf, imageOf, listQuestions, pagesOf, roomQuestion, rootsIn}
+use Rattle.format.specs.Writer.{ascending, bandsOf, imageOf, pagesOf, roomQuestion, rootsIn}
 use Rattle.format.specs.Exact.{Accepted, WriterAccepts}
 use Rattle.format.specs.Bounds.{Bounded, PageBound, pagesNeeded}
 use Rattle.format.proofs.Lists.{all-numbers, map-same, numbers-all}
-use Rattle.format.proofs.Questions.{yes-of-none}
+use Rattle.format.proofs.Jobs.{of-writable}
 use Rattle.format.proofs.Trie.{Fits}
 use Rattle.format.proofs.Members.{ascending-of, of-ascending, woven-fits}
 use Rattle.format.proofs.Subtries.{NodeBounds, first-shape, length-first, node-bounds, nodeCount-beside, nodeCount-parts}
@@ -132,6 +132,17 @@ pages-needed : (keys : List ℕ) (band : ℕ → List (List ℕ)) → bandsOf ke
 unfolding pagesNeeded
 pages-needed keys band e b lo hi = ap (λ (bs : List (List (List ℕ))). length (pagesOf (getD bs (b - 1) []))) e ∙ ap (λ (v : List (List ℕ)). length (pagesOf v)) (band-is band b lo hi)
 
+-- all of them, by the numbers of the bands or by the bands
+pub pages-summed : (keys : List ℕ) → total (map (pagesNeeded keys) bands) ≡ total (map (λ band. length (pagesOf band)) (bandsOf keys))
+unfolding bands
+pages-summed keys =
+    let band = bandAt (levelsOf keys) in
+    let count : List (List ℕ) → ℕ = λ band. length (pagesOf band) in
+    ap total
+    (map-same (pagesNeeded keys) (λ b. count (band b)) bands (all-numbers (λ b. pagesNeeded keys b ≡ count (band b)) 1 8 (λ b lo hi. pages-needed keys band (bandsOf-row keys) b lo (omega arith)))
+    ∙ sym (map-map count band bands)
+    ∙ ap (map count) (sym (bandsOf-row keys)))
+
 -- ---- of a list, and of an accepted image
 
 list-bounded : (keys : List ℕ) → Fits 32 keys → length keys ≤ 4096 → ascending keys ≡ true → Bounded (pagesNeeded keys) (length (imageOf keys))
@@ -152,10 +163,10 @@ image-bounded img a =
     (list-bounded (keysOf img) (k .fits) (omega (arith, k .count-is, f .few)) (ascending-of (keysOf img) (k .asc)))
 
 enough-room : (list : List (ℕ × ℕ)) → WriterAccepts list → (buffer : List ℕ) → 24640 ≤ length buffer → Yes (roomQuestion (woven list) buffer)
-unfolding listQuestions roomQuestion
+unfolding roomQuestion
 enough-room list w buffer h =
-    let y = yes-of-none (listQuestions (woven list)) w in
-    let k = list-bounded (woven list) (woven-fits list) (leb-true (length (woven list)) 4096 (y .0)) (y .1 .0) in
+    let q = of-writable (woven list) w in
+    let k = list-bounded (woven list) (woven-fits list) (q .0) (q .1) in
     le-leb (length (imageOf (woven list))) (length buffer) (omega (arith, k .size))
 
 pub page-bound : PageBound

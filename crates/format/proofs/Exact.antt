@@ -4,9 +4,8 @@ use mathlib.Core.Path.{_≡_, refl, sym, ap, _∙_, subst}
 use mathlib.Core.Bool.{true}
 use mathlib.Core.Option.{Option, none}
 use mathlib.Core.List.{List, [], _∷_, List·Memᴰ, Memᴰ·cast}
-use Prim.Native.Nat.{ℕ, _≤_}
+use Prim.Native.Nat.{ℕ}
 use native.Mathlib.Omega.{arith}
-use borrow.Author.Tests.{leb-true}
 use lib.ListN.{length, take, drop}
 use lib.Seq.{take-append-seam}
 use Rattle.format.specs.declared.Rectangle.{Rectangle}
@@ -18,8 +17,9 @@ use Rattle.format.specs.Writer.{bufferAfterWrite, bufferAfterWriteKeys, 
 use Rattle.format.specs.Answer.{bufferAfterListing, contains, inside, listing, memberKeys, placesQuestion, rectangleQuestion}
 use Rattle.format.specs.Exact.{AgreeOn, Exact, FilledIn, InOrder, ListedAlike, LongEnough, wholeSquare}
 use Rattle.format.proofs.Lists.{and-both}
-use Rattle.format.proofs.Questions.{yes-of-none, none-of-yes, after-yes}
-use Rattle.format.proofs.Trie.{Asc, Fits}
+use Rattle.format.proofs.Questions.{none-of-yes, after-yes}
+use Rattle.format.proofs.Jobs.{of-writable}
+use Rattle.format.proofs.Trie.{Fits}
 use Rattle.format.proofs.Keys.{holderOf-keyOf, slotOf-keyOf, keyOf-back, holderOf-small, slotOf-small}
 use Rattle.format.proofs.Members.{all-mem, Within, asc-same, of-ascending, fits-mem, select-asc, mem-select, select-mem, select-all, woven-back, unwoven-back, woven-fits, unwoven-small, mem-unwoven, unwoven-mem}
 use Rattle.format.proofs.Cells.{within-range}
@@ -112,10 +112,6 @@ whole-members img =
 
 -- ---- the writer
 
-questions-of : (keys : List ℕ) → firstNo (listQuestions keys) ≡ none → (length keys ≤ 4096) × Asc keys
-unfolding listQuestions
-questions-of keys e = let y = yes-of-none _ e in (leb-true (length keys) 4096 (y .0), of-ascending keys (y .1 .0))
-
 pub write-is : (keys buffer : List ℕ) → firstNo (listQuestions keys) ≡ none → Yes (roomQuestion keys buffer) → writeKeys keys buffer ≡ returns (length (imageOf keys))
 unfolding writeKeys settle
 write-is keys buffer e room =
@@ -130,8 +126,8 @@ written-bytes keys buffer e room =
 filled-in : (list : List (ℕ × ℕ)) → All Admissible list → firstNo (listQuestions (woven list)) ≡ none → (buffer : List ℕ) → Yes (roomQuestion (woven list) buffer) → FilledIn list buffer
 unfolding listOf write bufferAfterWrite
 filled-in list ad w buffer room =
-    let q = questions-of (woven list) w in
-    let i = imaged (woven list) (q .1) (woven-fits list) (q .0) in
+    let q = of-writable (woven list) w in
+    let i = imaged (woven list) (of-ascending (woven list) (q .1)) (woven-fits list) (q .0) in
     let e = written-bytes (woven list) buffer w room in
     record {
       size = length (imageOf (woven list));
@@ -164,10 +160,3 @@ exact =
       one = λ img i list e. let f = facts img i in ap (λ (l : List (ℕ × ℕ)). imageOf (woven l)) (sym e) ∙ ap imageOf (woven-back (keysOf img) (f .keys .fits)) ∙ f .back;
       nothing-else = λ img i. let f = facts img i in (unwoven-small (keysOf img), rw (woven-back (keysOf img) (f .keys .fits)) (f .writable));
     }
-
--- 16 never gets a no after 14 and 15
-pub list-writable : (keys : List ℕ) → Asc keys → Fits 32 keys → length keys ≤ 4096 → firstNo (listQuestions keys) ≡ none
-list-writable keys a f few =
-    let i = imaged keys a f few in
-    subst (λ (k : List ℕ). firstNo (listQuestions k) ≡ none) (i .list)
-    (facts (imageOf keys) (record { bytes = i .bytes; returned = returned-of-yes (imageOf keys) (i .is-accepted) }) .writable)

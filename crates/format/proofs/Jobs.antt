@@ -1,11 +1,16 @@
--- What the answer of a job tells of its questions.
+-- What the answer of a job tells of its questions, and what the writer asks of a list.
 -- Assumes nothing.
 use mathlib.Core.Path.{_≡_, refl, ap, _∙_}
+use mathlib.Core.Bool.{true}
 use mathlib.Core.Option.{Option, none, some}
 use mathlib.Core.List.{List}
-use Prim.Native.Nat.{ℕ}
+use Prim.Native.Nat.{ℕ, _≤_}
 use native.Mathlib.Omega.{arith}
+use borrow.Author.Tests.{le-leb, leb-true}
+use lib.ListN.{length}
 use Rattle.format.specs.Question.{Question, firstNo, outcome, refused, returns, settle}
+use Rattle.format.specs.Writer.{ascending, listQuestions}
+use Rattle.format.proofs.Questions.{none-of-yes, yes-of-none}
 
 -- a refusal is the first no, and a job that returns got a yes throughout
 pub no-of-refused : {A : Type 0} (qs : List Question) (a : A) (n : ℕ) → settle qs a ≡ refused n → firstNo qs ≡ some n
@@ -23,3 +28,12 @@ yes-of-returns qs a b e = go (firstNo qs) refl e
     go : (o : Option ℕ) → firstNo qs ≡ o → outcome o a ≡ returns b → (firstNo qs ≡ none) × (a ≡ b)
     go none d k = (d, cc)
     go (some m) d k = absurd (let z : _≡_ {A = ℕ} 0 1 = cc in omega arith)
+
+-- 14 and 15 are all that the writer asks of a list
+pub list-writable : (keys : List ℕ) → length keys ≤ 4096 → ascending keys ≡ true → firstNo (listQuestions keys) ≡ none
+unfolding listQuestions
+list-writable keys few asc = none-of-yes (listQuestions keys) (le-leb (length keys) 4096 few, (asc, tt))
+
+pub of-writable : (keys : List ℕ) → firstNo (listQuestions keys) ≡ none → (length keys ≤ 4096) × (ascending keys ≡ true)
+unfolding listQuestions
+of-writable keys e = let y = yes-of-none (listQuestions keys) e in (leb-true (length keys) 4096 (y .0), y .1 .0)

@@ -5,7 +5,6 @@ use mathlib.Core.Bool.{Bool, true, false, _&&_}
 use mathlib.Core.List.{List, [], _∷_, _++_, flatMap, flatten}
 use lib.Dec.{leb, ltb}
 use lib.ListN.{length, getD, take, drop, replicate}
-use Rattle.format.specs.Seq.{every}
 use Rattle.format.specs.Trie.{levelsOf, onBits}
 use Rattle.format.specs.Page.{firstSubtries, laterSubtries, nodeCount, nodeBytes, twoBytes}
 use Rattle.format.specs.Key.{woven}
@@ -80,12 +79,11 @@ ascending [] = true
 ascending (x ∷ []) = true
 ascending (x ∷ y ∷ ys) = ltb x y && ascending (y ∷ ys)
 
--- 14 to 16, and 17
+-- 14 and 15, and 17. Number 16 is unused: it asked whether each band's page count fits 16 bits, which it always does (specs/Bounds).
 unfoldable pub listQuestions : List ℕ → List Question
 listQuestions keys =
     (14, leb (length keys) 4096)
     ∷ (15, ascending keys)
-    ∷ (16, every (λ band. ltb (length (pagesOf band)) 65536) (bandsOf keys))
     ∷ []
 
 unfoldable pub roomQuestion : List ℕ → List ℕ → Question

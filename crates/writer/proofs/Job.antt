@@ -4,19 +4,18 @@ use mathlib.Core.Path.{_≡_, refl, sym, ap, ap₂, _∙_}
 use mathlib.Core.Bool.{false}
 use mathlib.Core.Option.{Option, none, some}
 use mathlib.Core.List.{List, [], _∷_, _++_, append-assoc, append-nil, flatMap, map}
-use Prim.Native.Nat.{ℕ, suc, _+_, _*_, _-_, _^_, _≤_, _<_}
+use Prim.Native.Nat.{ℕ, _+_, _*_, _-_, _≤_, _<_}
 use native.Mathlib.Omega.{arith}
 use borrow.Author.Tests.{le-leb, lt-leb}
-use lib.ListN.{length, getD, take, drop, replicate, length-append, take-append-drop}
+use lib.ListN.{length, take, drop, replicate, length-append, take-append-drop}
 use lib.Seq.{take-at, drop-at, drop-drop, drop-length, length-take-le}
 use Rattle.format.specs.Seq.{total}
 use Rattle.format.specs.Page.{twoBytes}
 use Rattle.format.specs.Question.{Outcome, refused, returns, outcome, settle, firstNo, filled}
 use Rattle.format.specs.Writer.{ascending, bandsOf, bandCounts, bandBytes, pagesOf, rootsIn, header, imageOf, listQuestions, roomQuestion, writeKeys, bufferAfterWriteKeys}
-use Rattle.format.proofs.Trie.{Fits}
 use Rattle.format.proofs.Questions.{after-yes}
-use Rattle.format.proofs.Members.{of-ascending}
-use Rattle.format.proofs.Exact.{list-writable, write-is}
+use Rattle.format.proofs.Jobs.{list-writable}
+use Rattle.format.proofs.Exact.{write-is}
 use Rattle.writer.specs.declared.Written.the-variants.{Length, Refused}
 use Rattle.image_writer.specs.declared.Plan.{Plan}
 use Rattle.writer.specs.Writer.{WrittenKeys}
@@ -93,10 +92,10 @@ not-ascending keys buffer few e = refused-by keys buffer 15 no
     no : firstNo (listQuestions keys ++ roomQuestion keys buffer ∷ []) ≡ some 15
     no = unfold listQuestions firstNo in rw (le-leb (length keys) 4096 few, e) refl
 
--- 14 and 15 got a yes; 16 gets one too
-module _ (keys buffer : List ℕ) (listed : Prefixes keys) (fits : Fits 32 keys) where
+-- 14 and 15 got a yes
+module _ (keys buffer : List ℕ) (listed : Prefixes keys) where
   yes-all : firstNo (listQuestions keys) ≡ none
-  yes-all = list-writable keys (of-ascending keys (listed .ordered)) fits (listed .few)
+  yes-all = list-writable keys (listed .few) (listed .ordered)
 
   no-room : length buffer < 64 + 64 * pagesIn keys → WrittenKeys keys buffer (Refused 17) buffer
   no-room h = refused-by keys buffer 17 (after-yes (listQuestions keys) (roomQuestion keys buffer ∷ []) yes-all ∙ no)
@@ -116,13 +115,9 @@ module _ (keys buffer : List ℕ) (listed : Prefixes keys) (fits : Fits 32 keys)
 
 -- ---- by a plan
 
-pub fits-of : (l : List ℕ) → ((i : ℕ) → getD l i 0 < 2 ^ 32) → Fits 32 l
-fits-of [] h = tt
-fits-of (x ∷ l) h = (h 0, fits-of l (λ i. h (suc i)))
-
-module _ (keys buffer : List ℕ) (plan : Plan) (g : Prefixes keys × Planned keys plan) (fits : Fits 32 keys) where
+module _ (keys buffer : List ℕ) (plan : Plan) (g : Prefixes keys × Planned keys plan) where
   pub plan-no-room : length buffer < 64 + 64 * plan .pages → WrittenKeys keys buffer (Refused 17) buffer
-  plan-no-room h = no-room keys buffer (g .0) fits (rw (← g .1 .pages-are) h)
+  plan-no-room h = no-room keys buffer (g .0) (rw (← g .1 .pages-are) h)
 
   module _ (room : 64 + 64 * plan .pages ≤ length buffer) (out₁ : List ℕ) where
     pub plan-room : length out₁ ≡ length buffer → ImageRoom keys out₁ plan
@@ -130,7 +125,7 @@ module _ (keys buffer : List ℕ) (plan : Plan) (g : Prefixes keys × Planned ke
 
     pub plan-written : (out₂ : List ℕ) → out₁ ≡ headerOf (length keys) (plan .counts) ++ drop 64 buffer → out₂ ≡ pagesFrom out₁ 1 (bytesOfBands keys) → WrittenKeys keys buffer (Length (64 + 64 * plan .pages)) out₂
     plan-written out₂ e₁ e₂ =
-        rw (g .1 .pages-are) (written keys buffer (g .0) fits out₁ out₂ (rw (g .1 .pages-are) at room) (e₁ ∙ ap (λ (c : List ℕ). headerOf (length keys) c ++ drop 64 buffer) (g .1 .counts-are)) e₂)
+        rw (g .1 .pages-are) (written keys buffer (g .0) out₁ out₂ (rw (g .1 .pages-are) at room) (e₁ ∙ ap (λ (c : List ℕ). headerOf (length keys) c ++ drop 64 buffer) (g .1 .counts-are)) e₂)
 
 -- the question that got a no
 pub plan-refused : (keys after buffer : List ℕ) (plan : Plan) → length keys ≤ 4096 → KeysPlanned keys after plan → 0 < plan .refusal → WrittenKeys keys buffer (Refused (plan .refusal)) buffer

@@ -62,7 +62,7 @@ fn write_over(places: &mut [u32], keys: &[u32], out: &mut [u8]) -> Written
     fill_image(places, out, plan)
 }
 
-// Writes the image of a list of keys: questions 14 to 17, then the image's length.
+// Writes the image of a list of keys: questions 14, 15 and 17, then the image's length.
 pub fn write_keys(keys: &[u32], out: &mut [u8]) -> Written
     ensures { λ r. ⌜ WrittenKeys (now (keys .entry)) (now (out .entry)) r (now (out .exit)) ⌝ }
 {

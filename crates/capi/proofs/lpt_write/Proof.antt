@@ -38,11 +38,12 @@ use denote.Triple.Table.{entered, cited}
 use denote.Triple.Walked.{says, Stays, stay-none-slice, gave-slice, walkOf, goes-none-slice, goes-gave-slice, Walks, ends-at, walked, walk-meets}
 use denote.Triple.Clauses.{Lasts, ensured, lasts}
 use denote.Exit.{yes}
-use Rattle.capi.specs.Encoding.{WrittenToC, encodedLength}
-use Rattle.capi.proofs.Length.{to-c}
+use Rattle.capi.specs.Encoding.{WrittenToC, WithinBound, encoded}
+use Rattle.capi.proofs.Length.{to-c, within}
 use Rattle.format.specs.declared.Admission.{Admission}
 use Rattle.format.proofs.Admission as T
 use Rattle.writer.specs.List.{WrittenList}
+use Rattle.writer.specs.Writer.{outcomeOf}
 use Rattle.writer.specs.declared.Written.{Written}
 use Rattle.writer.proofs.Written as S
 use Rattle.writer.proofs.Written.Laws as S′
@@ -117,11 +118,11 @@ module _ {M : Type 1} (𝓤 : URA M) (H : Heap 𝓤) (A : Atoms 𝓤) (W : Given
   abbrev to-shown : Written → Val → Shown 𝓤 H A mem run .Ghost
   to-shown t u = ((tt, tt, tt, (t, tt), (u ∷ [], tt)), tt)
 
-  goes-shown : (t : Written) (u : Val) → ent 𝓤 (⋆ 𝓤 H A (‵ ftrue ∷ ‵ (fsep (S.the-row .own t (u ∷ [])) ftrue) ∷ [])) (Shown 𝓤 H A mem run .pre (to-shown t u))
-  goes-shown t u = qed W (‵ ftrue ∷ ‵ (fsep (S.the-row .own t (u ∷ [])) ftrue) ∷ []) ∵ join ! $ frame ! $ done !
+  goes-shown : (t : Written) (u : Val) → WithinBound t → ent 𝓤 (⋆ 𝓤 H A (‵ ftrue ∷ ‵ (fsep (S.the-row .own t (u ∷ [])) ftrue) ∷ [])) (Shown 𝓤 H A mem run .pre (to-shown t u))
+  goes-shown t u small = qed W (‵ ftrue ∷ ‵ (fsep (S.the-row .own t (u ∷ [])) ftrue) ∷ []) ∵ says ! small $ frame ! $ done !
 
-  shown-said : (t : Written) (r : ℤ) → ent 𝓤 (ensured 𝓤 H A shown.ended (shown.clauses 𝓤 H A mem run) tt (t, tt) tt r) (fact 𝓤 (r ≡ encodedLength t))
-  shown-said t r = exE 𝓤 _ (λ ws. snd∗ 𝓤 (sem 𝓤 H A (lasts shown.ended tt (t, tt) ws)) (fact 𝓤 (r ≡ encodedLength t)))
+  shown-said : (t : Written) (r : ℤ) → ent 𝓤 (ensured 𝓤 H A shown.ended (shown.clauses 𝓤 H A mem run) tt (t, tt) tt r) (fact 𝓤 (r ≡ encoded (outcomeOf t)))
+  shown-said t r = exE 𝓤 _ (λ ws. snd∗ 𝓤 (sem 𝓤 H A (lasts shown.ended tt (t, tt) ws)) (fact 𝓤 (r ≡ encoded (outcomeOf t))))
 
   module _ (C : Calls 𝓤 H) (Λ : Loops 𝓤 H) (fm : FmC 𝓤 H (W .laws) C) (known-core : Triple 𝓤 (C #writer·write) (Core 𝓤 H A mem run)) (known-shown : Triple 𝓤 (C #capi·written) (Shown 𝓤 H A mem run)) where
     walk : Room T.the-row n → Room u8 (length ys) → ent 𝓤 (onEntry 𝓤 H A f.signature (κ, (κ′, tt)) (q, (p, tt)) (s, (x, tt)) at) (WpFn 𝓤 H C Λ code.function (v ∷ w ∷ []) Post)
@@ -143,11 +144,11 @@ module _ {M : Type 1} (𝓤 : URA M) (H : Heap 𝓤) (A : Atoms 𝓤) (W : Given
         move ! (3 ∷ []) $ split ! $ move ! (1 ∷ []) $ peeks ! S.the-row (Is S.the-row) (shows 𝓤 H A S.the-row) t (u₁ ∷ []) (λ is₁.
         land ! (from ! (stop !)) (init ! 10 refl (EL.lawful S.the-type S′.the-laws 𝓤 H A W tt .typed t _ is₁ .0)) $
         -- `written`
-        nothing ! $ move ! (1 ∷ 0 ∷ []) $ fjoin ! $ nothing ! $ use2 W (raw (Shown 𝓤 H A mem run .pre (to-shown t u₁))) (goes-shown t u₁) $
+        nothing ! $ move ! (1 ∷ 0 ∷ []) $ fjoin ! $ nothing ! $ use2 W (raw (Shown 𝓤 H A mem run .pre (to-shown t u₁))) (goes-shown t u₁ (within (now s) ys t (ws .1 .0) e)) $
         -- [what `written` asks; the tokens; the last list; true; what is said of list; what list owns; _5; …; _4; …; _3; …; _2; …; _1; …; _0; …]
         calls-at ! fm (Shown 𝓤 H A mem run) known-shown (to-shown t u₁) (and-then ! (load ! (from ! (stop !)) (look ! 10 refl)) (no-more !)) (λ u.
         use1 W (later (some (λ (r : ℤ). (‵ ftrue ⊛ ‵ (i64 .own r (u ∷ []))) ⊛ raw (ensured 𝓤 H A shown.ended (shown.clauses 𝓤 H A mem run) tt (t, tt) tt r)))) (id⊢ 𝓤 _) $ await ! tt $ pick ! (λ r.
-        split ! $ move ! (1 ∷ []) $ use1 W (raw (fact 𝓤 (r ≡ encodedLength t))) (shown-said t r) $ heard ! (r ≡ encodedLength t) (λ e₂. split ! $ move ! (1 ∷ []) $
+        split ! $ move ! (1 ∷ []) $ use1 W (raw (fact 𝓤 (r ≡ encoded (outcomeOf t)))) (shown-said t r) $ heard ! (r ≡ encoded (outcomeOf t)) (λ e₂. split ! $ move ! (1 ∷ []) $
         -- [the result; true; the tokens; the last list; true; what is said of list; what list owns; _5; …]
         peeks ! i64 (Is i64) (shows 𝓤 H A i64) r (u ∷ []) (λ is.
         land ! (from ! (stop !)) (init ! 17 refl (sint-lawful 𝓤 H A W w64 .typed r _ is .0)) $
