@@ -63,6 +63,11 @@ module _ {A : Type 0} where
   all-get P (x ∷ l) zero d k h = h .0
   all-get P (x ∷ l) (suc i) d k h = all-get P l i d k (h .1)
 
+  -- back from the places
+  pub all-of : (P : A → Type 0) (l : List A) (d : A) → ((i : ℕ) → P (getD l i d)) → All P l
+  all-of P [] d h = tt
+  all-of P (x ∷ l) d h = (h 0, all-of P l d (λ i. h (suc i)))
+
   pub every-all : (f : A → Bool) (l : List A) → every f l ≡ true → All (λ x. f x ≡ true) l
   unfolding every
   every-all f [] h = tt

@@ -11,7 +11,9 @@ use Rattle.format.specs.Seq.{total, numbersFrom}
 use Rattle.format.specs.Trie.{parents, levelsOver}
 use Rattle.format.specs.Image.{bands}
 use Rattle.format.specs.Writer.{bandsOf, pagesOf, rootsIn}
+use Rattle.format.proofs.Trie.{Fits}
 use Rattle.format.proofs.Members.{of-ascending, ascending-of}
+use Rattle.format.proofs.Bounds.{page-bound, pages-summed}
 use Rattle.format.proofs.RunHeads.{heads}
 use Rattle.format.proofs.Runs.{bandOver, bands-of-keys}
 use Rattle.packing.specs.declared.BandCounts.{BandCounts}
@@ -46,12 +48,23 @@ countsIn band = length (pagesOf band) ∷ rootsIn band ∷ []
 abbrev pub pageCount : List (List ℕ) → ℕ
 pageCount band = length (pagesOf band)
 
+-- the pages of bands in a row
+pub pages-append : (a b : List (List (List ℕ))) → total (map pageCount (a ++ b)) ≡ total (map pageCount a) + total (map pageCount b)
+unfolding total
+pages-append [] b = omega arith
+pages-append (x ∷ a) b = omega (arith, pages-append a b)
+
 -- once the last band is counted, the keys after its roots are as they were, and the first n are among those before
 pub record Kept (keys₀ keys counts : List ℕ) (n b : ℕ) : Type 0 where
   pub whole : b ≡ 8 → keys ≡ keys₀
   pub few : b < 8 → n ≤ getD counts 15 0
   pub some : b < 8 → getD counts 15 0 ≤ length keys₀
   pub rest : b < 8 → drop (getD counts 15 0) keys ≡ drop (getD counts 15 0) keys₀
+
+-- the pages of an image by format's bound
+pages-bounded : (keys : List ℕ) → Prefixes keys → Fits 32 keys → pagesIn keys ≤ 384
+unfolding pagesIn
+pages-bounded keys p fits = omega (arith, pages-summed keys, page-bound .of-list keys fits (p .few) (p .ordered) .all-bands)
 
 -- the bands above the first n of keys, b of them, are left
 pub record Planning (keys₀ keys counts : List ℕ) (pages n b : ℕ) : Type 0 where
@@ -62,12 +75,13 @@ pub record Planning (keys₀ keys counts : List ℕ) (pages n b : ℕ) : Type 0 
   pub bands-are : bandsOf keys₀ ≡ bandsUp b (take n keys) ++ done
   pub counts-are : counts ≡ replicate (2 * b) 0 ++ flatMap countsIn done
   pub pages-are : pages ≡ total (map pageCount done)
-  pub pages-few : pages + 4096 * b ≤ 32768
+  pub pages-few : pagesIn keys₀ ≤ 384
+  pub bands-few : b ≤ 8
   pub kept : Kept keys₀ keys counts n b
 
-pub planning-start : (keys : List ℕ) → Prefixes keys → Planning keys keys (replicate 16 0) 0 (length keys) 8
+pub planning-start : (keys : List ℕ) → Prefixes keys → Fits 32 keys → Planning keys keys (replicate 16 0) 0 (length keys) 8
 unfolding flatMap total
-planning-start keys p =
+planning-start keys p fits =
     let all : take (length keys) keys ≡ keys = take-all (length keys) keys (omega arith) in
     record {
       listed = rw all p;
@@ -77,7 +91,8 @@ planning-start keys p =
       bands-are = bands-up keys ∙ ap (bandsUp 8) (sym all) ∙ sym (append-nil (bandsUp 8 (take (length keys) keys)));
       counts-are = refl;
       pages-are = refl;
-      pages-few = omega arith;
+      pages-few = pages-bounded keys p fits;
+      bands-few = omega arith;
       kept = record { whole = λ e. refl; few = λ h. absurd (omega arith); some = λ h. absurd (omega arith); rest = λ h. absurd (omega arith) };
     }
 
@@ -162,6 +177,25 @@ module _ (keys₀ keys counts : List ℕ) (pages n b : ℕ) (s : Planning keys�
   pub part-prefixes : Prefixes (take (n - 0) keys)
   part-prefixes = let z : n - 0 ≡ n = omega arith in rw z (s .listed)
 
+  -- with the pages of the next band there are no more than the image has
+  pub planning-few : (r : BandCounts) (after : List ℕ) → 0 < b → BandCounted (take (n - 0) keys) r after → pages + r .pages ≤ 384
+  unfolding pagesIn total
+  planning-few r after some c =
+      let z : n - 0 ≡ n = omega arith in
+      let e : b ≡ suc (b - 1) = omega arith in
+      let up = bandsUp (b - 1) (rootsAbove (take n keys)) in
+      let sum = ap (λ (l : List (List (List ℕ))). total (map pageCount l)) (s .bands-are ∙ ap (λ (k : ℕ). bandsUp k (take n keys) ++ s .done) e) in
+      omega (
+        arith,
+        sum,
+        pages-append (up ++ bandAbove (take n keys) ∷ []) (s .done),
+        pages-append up (bandAbove (take n keys) ∷ []),
+        s .pages-are,
+        s .pages-few,
+        c .pages-are,
+        ap (λ (k : ℕ). pageCount (bandAbove (take k keys))) z,
+      )
+
   pub planning-next : (r : BandCounts) (after : List ℕ) → 0 < b → BandCounted (take (n - 0) keys) r after → length after ≡ length (take (n - 0) keys)
       → Planning keys₀ (after ++ drop (n - 0) keys) (set (set counts (2 * (b - 1)) (r .pages)) (2 * (b - 1) + 1) (r .roots)) (pages + r .pages) (r .roots) (b - 1)
   planning-next r after some c same = go (b - 1) (omega arith)
@@ -197,8 +231,9 @@ module _ (keys₀ keys counts : List ℕ) (pages n b : ℕ) (s : Planning keys�
                 ∙ ap₂ (λ (i j : ℕ). replicate (2 * b′) 0 ++ i ∷ j ∷ flatMap countsIn (s .done)) pages-is roots-is′
                 ∙ more b′;
             pages-are = sum;
-            pages-few = omega (arith, s .pages-few, c .pages-few, q-length, s .listed .few, length-take-le n keys (s .within));
-            kept = kept-next keys₀ keys counts n b′ (r .pages) (r .roots) after (rw e at (s .kept)) (rw e at room) (omega (arith, s .pages-few)) (s .within) (s .same) (omega (arith, c .roots-few, q-length)) (same ∙ q-length) (c .kept);
+            pages-few = s .pages-few;
+            bands-few = omega (arith, s .bands-few);
+            kept = kept-next keys₀ keys counts n b′ (r .pages) (r .roots) after (rw e at (s .kept)) (rw e at room) (omega (arith, s .bands-few)) (s .within) (s .same) (omega (arith, c .roots-few, q-length)) (same ∙ q-length) (c .kept);
           }
         where
           more : (b′ : ℕ) → replicate (2 * b′) 0 ++ length (pagesOf (bandAbove (take n keys))) ∷ rootsIn (bandAbove (take n keys)) ∷ flatMap countsIn (s .done) ≡ replicate (2 * b′) 0 ++ flatMap countsIn (bandAbove (take n keys) ∷ s .done)
@@ -212,11 +247,12 @@ unfolding countsOf pagesIn usedUp
 planning-end keys₀ keys counts pages n b s none =
     let z : b ≡ 0 = omega arith in
     let d : bandsOf keys₀ ≡ s .done = s .bands-are ∙ ap (λ (k : ℕ). bandsUp k (take n keys) ++ s .done) z in
+    let sum : pages ≡ total (map pageCount (bandsOf keys₀)) = s .pages-are ∙ ap (λ (l : List (List (List ℕ))). total (map pageCount l)) (sym d) in
     record {
       planned = record {
         counts-are = s .counts-are ∙ ap (λ (k : ℕ). replicate (2 * k) 0 ++ flatMap countsIn (s .done)) z ∙ ap (flatMap countsIn) (sym d);
-        pages-are = s .pages-are ∙ ap (λ (l : List (List (List ℕ))). total (map pageCount l)) (sym d);
-        few = omega (arith, s .pages-few);
+        pages-are = sum;
+        few = omega (arith, sum, s .pages-few);
       };
       no-refusal = refl;
       used-few = s .kept .some (omega arith);

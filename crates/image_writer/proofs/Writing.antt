@@ -12,7 +12,7 @@ use Rattle.format.proofs.WrittenPages.{length-bandBytes}
 use Rattle.image_writer.specs.declared.Plan.{Plan}
 use Rattle.packing.specs.Run.{Prefixes, bandAbove, rootsAbove}
 use Rattle.image_writer.specs.Image.{countsOf, pagesIn, BandRoom, BandDone, ImageRoom, bytesOfBand, bytesOfBands, pagesFrom}
-use Rattle.image_writer.proofs.Planning.{bandsUp, bands-up, roots-prefixes, countsIn, pageCount, first-ones, back-length}
+use Rattle.image_writer.proofs.Planning.{bandsUp, bands-up, roots-prefixes, countsIn, pageCount, pages-append, first-ones, back-length}
 
 -- the pages before `first` are left: those of the bands above the first n of keys, b of them; `last` is the number after the last page
 pub record Writing (keys₀ out₀ counts : List ℕ) (last : ℕ) (keys out : List ℕ) (first n b : ℕ) : Type 0 where
@@ -62,11 +62,6 @@ unfolding flatMap
 length-counts [] = refl
 length-counts (x ∷ l) = omega (arith, length-counts l)
 
-total-last : (l : List (List (List ℕ))) (x : List (List ℕ)) → total (map pageCount (l ++ x ∷ [])) ≡ total (map pageCount l) + pageCount x
-unfolding total
-total-last [] x = omega arith
-total-last (y ∷ l) x = omega (arith, total-last l x)
-
 pub length-band : (band : List (List ℕ)) → length (bytesOfBand band) ≡ 64 * pageCount band
 unfolding bytesOfBand
 length-band band = length-bandBytes 0 0 (pagesOf band)
@@ -88,7 +83,8 @@ module _ (keys₀ out₀ counts : List ℕ) (last : ℕ) (keys out : List ℕ) (
       ∙ getD-at (flatMap countsIn bs) (pageCount (bandAbove (take n keys))) (rootsIn (bandAbove (take n keys)) ∷ flatMap countsIn (s .done)) 0 (2 * (b - 1)) (length-counts bs ∙ ap (2 *_) (length-up (b - 1) (rootsAbove (take n keys))))
 
   pages-sum : first ≡ 1 + total (map pageCount (bandsUp (b - 1) (rootsAbove (take n keys)))) + pageCount (bandAbove (take n keys))
-  pages-sum = omega (arith, s .first-is, ap (λ (l : List (List (List ℕ))). total (map pageCount l)) up, total-last (bandsUp (b - 1) (rootsAbove (take n keys))) (bandAbove (take n keys)))
+  unfolding total
+  pages-sum = omega (arith, s .first-is, ap (λ (l : List (List (List ℕ))). total (map pageCount l)) up, pages-append (bandsUp (b - 1) (rootsAbove (take n keys))) (bandAbove (take n keys) ∷ []))
 
   pub count-within : getD counts (2 * (b - 1)) 0 ≤ first
   count-within = omega (arith, count-is, pages-sum)

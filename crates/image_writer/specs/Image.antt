@@ -20,7 +20,7 @@ pagesIn keys = total (map (λ band. length (pagesOf band)) (bandsOf keys))
 pub record Planned (keys : List ℕ) (plan : Plan) : Type 0 where
   pub counts-are : plan .counts ≡ countsOf keys
   pub pages-are : plan .pages ≡ pagesIn keys
-  pub few : plan .pages ≤ 32768
+  pub few : plan .pages ≤ 384
 
 -- the header of n keys, where counts are the page count and the root count of each band
 unfoldable pub headerOf : ℕ → List ℕ → List ℕ

@@ -10,7 +10,7 @@ use lib.Count.{ones, onesIn, ones-cat}
 use Rattle.format.specs.Seq.{All}
 use Rattle.format.specs.Trie.{bits, onBits}
 use Rattle.format.specs.Page.{Byte, pairsOf}
-use Rattle.format.proofs.Lists.{all-get}
+use Rattle.format.proofs.Lists.{all-get, all-of}
 use Rattle.nodes.specs.Words.{halfAt, wordAt}
 
 -- each is a node: a number of two bits
@@ -23,8 +23,7 @@ nodes-same d (suc n) h = (h, nodes-same d n h)
 
 -- what is below 256 at each place is a list of bytes
 pub bytes-of : (l : List ℕ) → ((i : ℕ) → getD l i 0 < 256) → All Byte l
-bytes-of [] h = tt
-bytes-of (b ∷ bs) h = (h 0, bytes-of bs (λ i. h (suc i)))
+bytes-of l h = all-of Byte l 0 h
 
 -- the number of nodes, the first the highest, after those of w
 unfoldable pub val : ℕ → List ℕ → ℕ

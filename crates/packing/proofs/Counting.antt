@@ -187,11 +187,9 @@ module _ (q keys : List ℕ) (x roots : ℕ) (packing : Packing) (size i : ℕ) 
   count-end : BandCounted q (record { pages = joined packing size .pages; roots = roots }) keys
   count-end =
       let r = rw all-read at (run-of q 0 i (c .scan .ordered) (omega (arith, c .scan .open-some)) (c .scan .within)) in
-      let n : (joined packing size .pages ≡ length (pagesOf (bandAbove q))) × (joined packing size .pages ≤ i) = pages-end in
       record {
-        pages-are = n .0;
+        pages-are = pages-end;
         roots-are = c .roots-count ∙ ap (λ (l : List ℕ). length (heads 4 l)) all-read ∙ sym (roots-are _ _ q r);
-        pages-few = omega (arith, n .1, c .scan .within);
         roots-few = omega (arith, c .roots-few, c .scan .within);
         lifted = c .lifted ∙ ap (heads 4) all-read ∙ sym (roots-is q);
         kept = c .kept;
@@ -200,18 +198,18 @@ module _ (q keys : List ℕ) (x roots : ℕ) (packing : Packing) (size i : ℕ) 
       none-left : length (pagesOf (bandAbove (drop i q))) ≡ 0
       none-left = let e : i ≡ length q = omega (arith, c .scan .within, c .same-length) in ap (λ (l : List ℕ). length (pagesOf (bandAbove l))) (ap (λ (j : ℕ). drop j q) e ∙ drop-length q) ∙ ap length no-pages
 
-      pages-end : (joined packing size .pages ≡ length (pagesOf (bandAbove q))) × (joined packing size .pages ≤ i)
+      pages-end : joined packing size .pages ≡ length (pagesOf (bandAbove q))
       pages-end =
           elim (decLe (packing .used + size) 240) [
             | yes h ↦ let p = scan-last q (c .from) (c .start) i (packing .used) size (c .scan) (omega (arith, c .same-length)) h in
                 let n = ap length (p .page) in
-                rw (joined-fits packing size h) (omega (arith, n, none-left, c .pages-are), omega (arith, c .pages-few, p .after))
+                rw (joined-fits packing size h) (omega (arith, n, none-left, c .pages-are))
             | no h ↦ let p = scan-ends q (c .from) (c .start) i (packing .used) size (c .scan) (λ h. absurd (omega (arith, c .same-length))) (omega arith) in
                 let s = scan-turns q (c .from) (c .start) i (packing .used) size (c .scan) in
                 let r = scan-last q (c .start) (c .start) i 0 size s (omega (arith, c .same-length)) (omega (arith, c .scan .small)) in
                 let n = ap length (p .page) in
                 let m = ap length (r .page) in
-                rw (joined-full packing size (omega arith)) (omega (arith, n, m, none-left, c .pages-are), omega (arith, c .pages-few, p .after, c .scan .open-some))
+                rw (joined-full packing size (omega arith)) (omega (arith, n, m, none-left, c .pages-are))
           ]
 
 -- without a prefix
@@ -221,7 +219,6 @@ count-none [] e =
     record {
       pages-are = sym (ap length no-pages);
       roots-are = sym (ap rootsIn (band-is []) ∙ (unfold bandOver heads nodesOver in refl));
-      pages-few = omega arith;
       roots-few = omega arith;
       lifted = refl;
       kept = refl;

@@ -51,7 +51,6 @@ pub record PageIs (prefixes : List ℕ) (run : PageRun) : Type 0 where
 pub record BandCounted (prefixes : List ℕ) (counts : BandCounts) (after : List ℕ) : Type 0 where
   pub pages-are : counts .pages ≡ length (pagesOf (bandAbove prefixes))
   pub roots-are : counts .roots ≡ rootsIn (bandAbove prefixes)
-  pub pages-few : counts .pages ≤ length prefixes
   pub roots-few : counts .roots ≤ length prefixes
   pub lifted : take (counts .roots) after ≡ rootsAbove prefixes
   pub kept : drop (counts .roots) after ≡ drop (counts .roots) prefixes
