@@ -1,15 +1,14 @@
 -- How many pages, out-links and keys an accepted image has.
 -- Assumes nothing.
 use mathlib.Core.Path.{_≡_, sym, ap, _∙_}
-use mathlib.Core.List.{List, map}
-use Prim.Native.Nat.{ℕ, zero, suc, _+_, _-_, _*_, _≤_, _<_}
+use mathlib.Core.List.{List}
+use Prim.Native.Nat.{ℕ, _+_, _-_, _*_, _≤_, _<_}
 use native.Mathlib.Decide.{decLe}
 use native.Mathlib.Numerals.{add-one}
 use native.Mathlib.Omega.{arith}
 use borrow.Author.Tests.{lt-ltb, le-ltb}
 use lib.Dec.{ltb}
 use lib.ListN.{length}
-use Rattle.format.specs.Seq.{numbersFrom, total}
 use Rattle.format.specs.Image.{keyCount, pageCount, pageNumber, pagesBefore, rootCount}
 use Rattle.format.specs.Question.{outLinksDue}
 use Rattle.format.proofs.Accepted.{facts}
@@ -19,23 +18,12 @@ use Rattle.format.proofs.Checked.{cond-yes, cond-no}
 use Rattle.format.proofs.Levels.{prefixesAt, prefixes-keys}
 use Rattle.format.proofs.Walk.{roots-count}
 use Rattle.pages.specs.Page.{Ready}
-use Rattle.pages.proofs.Pages.{bytes, checked, few-pages}
+use Rattle.pages.proofs.Pages.{bytes, checked}
 
 -- the first page of the next band
 pub next-first : (img : List ℕ) (b : ℕ) → 1 ≤ b → pageNumber img b 0 + pageCount img b ≡ pageNumber img (b + 1) 0
 unfolding pageNumber
 next-first img b h = omega (arith, pagesBefore-suc img b h, ap (pagesBefore img) (add-one b))
-
--- pages of some bands
-pub pages-few : {img : List ℕ} (r : Ready img) (s n : ℕ) → total (map (pageCount img) (numbersFrom s n)) ≤ 65536 * n
-unfolding numbersFrom total
-pages-few r s zero = omega arith
-pages-few r s (suc n) = omega (arith, few-pages r s, pages-few r (suc s) n)
-
--- a page number is below 2 ^ 20
-pub page-number-small : {img : List ℕ} (r : Ready img) (b i : ℕ) → b ≤ 8 → i < pageCount img b → pageNumber img b i < 1048576
-unfolding pageNumber pagesBefore
-page-number-small r b i h k = omega (arith, pages-few r 1 (b - 1), few-pages r b)
 
 -- ---- keys and out-links
 

@@ -10,11 +10,12 @@ use native.Mathlib.Decide.{decLe}
 use lib.ListN.{length}
 use Rattle.format.specs.Seq.{All}
 use Rattle.format.specs.Page.{Byte, numberAt}
-use Rattle.format.specs.Image.{nextT, pageB, pageCount, pageNumber, pageT, rootCount}
+use Rattle.format.specs.Image.{nextT, pageB, pageCount, pageNumber, pagesBefore, pageT, rootCount}
 use Rattle.format.proofs.Bytes.{number-small}
 use Rattle.format.proofs.Accepted.{facts}
 use Rattle.format.proofs.Checked.{Checked, Counts, no-keys, some-keys}
-use Rattle.format.proofs.Read.{page-within, next-more, next-last}
+use Rattle.format.proofs.Read.{page-within, pages-within, next-more, next-last}
+use Rattle.format.proofs.Bounds.{page-bound}
 use Rattle.pages.specs.Page.{Ready, headAt}
 
 module _ {img : List ℕ} (r : Ready img) where
@@ -46,9 +47,13 @@ module _ {img : List ℕ} (r : Ready img) where
             | no h ↦ let e : b ≡ 1 = omega arith in omega (arith, ap (pageCount img) e)
           ]
 
-  pub few-pages : (b : ℕ) → pageCount img b < 65536
-  unfolding pageCount
-  few-pages b = number-small img (4 + 4 * b) bytes
+  -- by format's bound there are at most 384 pages: those of a band and of the bands before it are no more
+  pub few-pages : (b : ℕ) → 1 ≤ b → b ≤ 8 → pagesBefore img b + pageCount img b ≤ 384
+  few-pages b lo hi = omega (arith, pages-within img b lo hi, page-bound .of-image img (r .accepted) .all-bands)
+
+  pub page-number-small : (b i : ℕ) → 1 ≤ b → b ≤ 8 → i < pageCount img b → pageNumber img b i ≤ 384
+  unfolding pageNumber
+  page-number-small b i lo hi h = omega (arith, few-pages b lo hi)
 
   -- T and B of a page
   pub head-T : (b i : ℕ) → headAt img b 0 i ≡ pageT img b i

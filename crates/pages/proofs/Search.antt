@@ -16,7 +16,7 @@ pub record Search (img : List ℕ) (band : Band) (f x low high : ℕ) : Type 0 w
   pub field : f ≤ 2
   pub lower : low < high
   pub upper : high ≤ pageCount img (band .number)
-  pub small : high < 65536
+  pub small : high ≤ 384
   pub at : headAt img (band .number) f low ≤ x
   pub after : high < pageCount img (band .number) → x < headAt img (band .number) f high
 
@@ -28,7 +28,7 @@ search-start img band f x r d h k =
       field = h;
       lower = omega (arith, d .pages, some-pages r (band .number) (d .from) (d .to));
       upper = omega (arith, d .pages);
-      small = omega (arith, d .pages, few-pages r (band .number));
+      small = omega (arith, d .pages, few-pages r (band .number) (d .from) (d .to));
       at = k;
       after = λ l. absurd (omega (arith, d .pages));
     }

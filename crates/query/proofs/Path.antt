@@ -22,8 +22,8 @@ use Rattle.format.specs.declared.OutLink.{OutLink}
 use Rattle.pages.specs.Page.{Ready, BandRead, PageRead}
 use Rattle.pages.specs.Prefix.{AtPrefix}
 use Rattle.query.specs.Way.{WayRight, FoundRight}
-use Rattle.pages.proofs.Pages.{bytes, checked}
-use Rattle.pages.proofs.Counts.{next-first, pages-few}
+use Rattle.pages.proofs.Pages.{bytes, checked, few-pages}
+use Rattle.pages.proofs.Counts.{next-first}
 
 -- ---- eight places filled one after the other
 
@@ -86,9 +86,10 @@ module _ {img : List ℕ} {key : ℕ} {pages : List ℕ} {link first number : �
       let e : 4 * (number - 1) + 0 ≡ 4 * (number - 1) = omega arith in
       omega (arith, s .at .within, roots-count img (bytes (s .ready)) (checked (s .ready)) (s .ready .some) number (s .from) h, ap (λ (d : ℕ). length (prefixesAt img d)) e)
 
-  pub first-small : first < 1048576
-  unfolding pageNumber pagesBefore
-  first-small = omega (arith, s .first-is, pages-few (s .ready) 1 (number - 1), s .to)
+  -- the first page of the next band, or after band 8 the number after the last page
+  pub next-first-small : number ≤ 8 → {pages : ℕ} → pages ≡ pageCount img number → first + pages ≤ 385
+  unfolding pageNumber
+  next-first-small h e = omega (arith, s .first-is, few-pages (s .ready) number (s .from) h)
 
   -- the root in its page
   pub path-at : {root b : ℕ} → root ≡ link → b ≡ number → AtPrefix img (4 * (b - 1)) root (key / 2 ^ (36 - 4 * b))

@@ -2,9 +2,8 @@
 use mathlib.Core.Path.{refl}
 use native.Mathlib.Omega.{arith}
 use borrow.Author.Needs.{needs}
-use Rattle.pages.proofs.Pages.{B-small, T-small}
+use Rattle.pages.proofs.Pages.{B-small, T-small, page-number-small}
 use Rattle.pages.proofs.Follow.{page-small}
-use Rattle.pages.proofs.Counts.{page-number-small}
 use Rattle.subtries.proofs.Subtries.{starts-fit, link-is}
 use Rattle.subtries.proofs.Spots.{spot-made}
 use Rattle.subtries.proofs.spot_of.Statement.{statement}
@@ -28,7 +27,7 @@ mul-at c =
     let q = c .before .before .before .before .before .before .before .before .before in
     let d = q .page-near .ensures .0 in
     let r = q .before .before .pre .0 in
-    omega (arith, d .number, page-number-small r (q .page-near .result .band) (q .page-near .result .index) (d .to) (d .in-band))
+    omega (arith, d .number, page-number-small r (q .page-near .result .band) (q .page-near .result .index) (d .from) (d .to) (d .in-band))
 
 sub-link : tie.Need-sub-t13
 sub-link c =

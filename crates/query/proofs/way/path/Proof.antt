@@ -3,11 +3,10 @@ use mathlib.Core.Path.{ap, _∙_}
 use Prim.Native.Nat.{_-_}
 use native.Mathlib.Omega.{arith}
 use borrow.Author.Needs.{needs}
-use Rattle.format.specs.Image.{rootCount}
-use Rattle.pages.proofs.Pages.{few-pages}
+use Rattle.format.specs.Image.{pageCount, rootCount}
+use Rattle.pages.proofs.Pages.{page-number-small}
 use Rattle.pages.proofs.Heads.{opened-read}
-use Rattle.pages.proofs.Counts.{page-number-small}
-use Rattle.query.proofs.Path.{Path, path-start, path-root, path-at, path-next, way-out, way-off, path-end, path-rank, first-small}
+use Rattle.query.proofs.Path.{Path, path-start, path-root, path-at, path-next, way-out, way-off, path-end, path-rank, next-first-small}
 use Rattle.query.proofs.way.path.Statement.{statement}
 use Rattle.query.proofs.way.path.Tie as tie
 
@@ -47,13 +46,14 @@ returns c =
 cast-pages : tie.Need-cast-pages Inv-loop μ-loop
 cast-pages c =
     let p = c .before .before .before .before .before .head-of-root .ensures .0 in
-    record { fits = omega (arith, p .number, page-number-small (c .before .before .before .before .before .before .before .before .before .loop .inv .ready) (c .before .before .before .before .before .head-of-root .result .band) (c .before .before .before .before .before .head-of-root .result .index) (p .to) (p .in-band)) }
+    record { fits = omega (arith, p .number, page-number-small (c .before .before .before .before .before .before .before .before .before .loop .inv .ready) (c .before .before .before .before .before .head-of-root .result .band) (c .before .before .before .before .before .head-of-root .result .index) (p .from) (p .to) (p .in-band)) }
 
 add-first : tie.Need-add-first Inv-loop μ-loop
 add-first c =
     let at = c .before .before .before in
     let s = at .before .before .before .before .before .before .before .loop .inv in
-    record { fits = omega (arith, first-small s, few-pages (s .ready) (at .before .before .before .before .before .band-at .result .number), at .before .before .before .before .before .band-at .ensures .0 .pages) }
+    let b = at .before .before .before .before .before .band-at .ensures in
+    record { fits = omega (arith, next-first-small s (at .before .before .before .before .before .before .loop-test .taken) (b .0 .pages ∙ ap (pageCount (at .before .before .before .before .before .before .before .before .before .args .image .now)) (b .1))) }
 
 loop-again : tie.Need-loop-again Inv-loop μ-loop
 loop-again c =
