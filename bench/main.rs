@@ -5,7 +5,7 @@ use std::collections::BTreeSet;
 use std::fmt::Write as _;
 use std::hint::black_box as bb;
 
-use reference::{unweave, weave, Admission, Rect};
+use reference::{unweave, weave, Admission, Rect, MOST_BYTES};
 
 /// One implementation of the jobs; an answer -n is question n's no.
 struct Jobs {
@@ -123,7 +123,7 @@ fn data(name: &'static str, r: &mut Rng) -> Data {
     }
     let keys: Vec<u32> = set.iter().copied().collect();
     let list: Vec<Admission> = keys.iter().map(|&k| { let (holder, slot) = unweave(k); Admission { holder, slot } }).collect();
-    let mut img = vec![0u8; 32768];
+    let mut img = vec![0u8; MOST_BYTES];
     let n = reference::write(&list, &mut img).unwrap();
     img.truncate(n);
     let pick = |r: &mut Rng| list[r.below(N as u64) as usize];
@@ -177,8 +177,8 @@ fn compare(ds: &[Data], a: &Jobs, b: &Jobs) -> usize {
         for round in 0..400 {
             let step = 1 + r.below(if round < 20 { 3 } else { 400 }) as usize;
             let list: Vec<Admission> = d.list.iter().copied().skip(r.below(50) as usize).step_by(step).collect();
-            let (mut oa, mut ob) = (vec![7u8; 32768], vec![7u8; 32768]);
-            let short = if round % 9 == 0 { r.below(3000) as usize } else { 32768 };
+            let (mut oa, mut ob) = (vec![7u8; MOST_BYTES], vec![7u8; MOST_BYTES]);
+            let short = if round % 9 == 0 { r.below(3000) as usize } else { MOST_BYTES };
             let x = (a.write)(&list, &mut oa[..short]);
             let y = (b.write)(&list, &mut ob[..short]);
             assert!(x == y && oa == ob, "write {x} {y}");
@@ -265,7 +265,7 @@ fn rows(d: &'static Data, both: &[Jobs]) -> Vec<Row> {
         cases.extend(sorted);
         rows.push(Row { op: op.to_string(), cases });
     };
-    add("write", &|j| { let (f, mut o) = (j.write, vec![0u8; 32768]); case(j.name, 1, move || f(bb(&d.list), &mut o) as u64) }, None);
+    add("write", &|j| { let (f, mut o) = (j.write, vec![0u8; MOST_BYTES]); case(j.name, 1, move || f(bb(&d.list), &mut o) as u64) }, None);
     add("check", &|j| { let f = j.check; case(j.name, 1, move || f(bb(img)) as u64) },
         Some(case("sorted array", 1, move || bb(&d.keys).windows(2).all(|w| w[0] < w[1]) as u64)));
     for (op, qs) in [("lookup, listed", &d.hits), ("lookup, absent", &d.misses)] {

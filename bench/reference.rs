@@ -24,6 +24,9 @@ pub struct Admission {
     pub slot: u16,
 }
 
+/// The most bytes that an image can have.
+pub const MOST_BYTES: usize = 24_640;
+
 #[derive(Clone, Copy, PartialEq, Eq, Debug)]
 #[repr(C)]
 pub struct Rect {

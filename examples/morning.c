@@ -45,7 +45,7 @@ int main(void)
             list[n++] = (lpt_admission){ (uint16_t)(1000 + 7 * h), (uint16_t)(MORNING + s) };
     qsort(list, n, sizeof list[0], by_key);
 
-    static uint8_t image[24640];
+    static uint8_t image[LPT_MOST_BYTES];
     int64_t size = lpt_write(list, n, image, sizeof image);
     say("bytes written", size);
     if (size < 0)

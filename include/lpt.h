@@ -32,6 +32,9 @@ typedef struct {
 /* The most admissions that an image can hold. */
 #define LPT_MOST_ADMISSIONS 4096
 
+/* The most bytes that an image can have (proved): a buffer of so many has room for any image. */
+#define LPT_MOST_BYTES 24640
+
 /* Refusals of an image, by every function that takes one. */
 #define LPT_NO_HEADER 1       /* fewer than 64 bytes */
 #define LPT_NO_MARK 2         /* the first bytes are not 4C 50 54 */
@@ -70,7 +73,7 @@ typedef struct {
 /*
  * Writes the image of a list. The admissions must be in strictly ascending order of their keys (lpt.h has
  * no sorting: docs/FORMAT.md says how a key is made). Returns the image's length and fills just that many
- * first bytes of out. Refuses with 14, 15 or 17.
+ * first bytes of out; LPT_MOST_BYTES are always enough. Refuses with 14, 15 or 17.
  */
 int64_t lpt_write(const lpt_admission *list, size_t n, uint8_t *out, size_t out_len);
 

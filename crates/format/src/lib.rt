@@ -2,6 +2,9 @@
 ghost use mathlib.Core.Path.{_≡_};
 ghost use Rattle.format.specs.Band.{crossed};
 
+// The most bytes that an image can have (specs/Bounds): a buffer of so many has room for any.
+pub const MOST_BYTES: usize = 24640;
+
 // A holder number and a slot number, laid out as C lays it out.
 #[repr(C)]
 pub struct Admission {

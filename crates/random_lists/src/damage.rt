@@ -22,7 +22,7 @@ pub fn length_of(written: Written) -> usize {
 
 // Whether the writer makes this image of the keys.
 fn is_image(keys: &[u32], image: &[u8]) -> bool {
-    let mut out = [0u8; 65536];
+    let mut out = [0u8; format::MOST_BYTES];
     let length = length_of(writer::write_keys(keys, &mut out));
     if length != image.len() {
         return false;

@@ -27,12 +27,12 @@ fn compare(tally: Tally, keys: &[u32], image: &mut [u8], seed: Random) -> Tally 
 
 // Writes the image of the keys, and compares.
 fn compare_list(tally: Tally, keys: &[u32], seed: Random) -> Tally {
-    let mut image = [0u8; 65536];
+    let mut image = [0u8; format::MOST_BYTES];
     let length = damage::length_of(writer::write_keys(keys, &mut image));
     if length < 64 {
         return expect(tally, LISTS, false);
     }
-    if 65536 < length {
+    if format::MOST_BYTES < length {
         return expect(tally, LISTS, false);
     }
     compare(

@@ -68,12 +68,12 @@ fn write_thinned(keys: &[u32], asked: Rectangle, seed: Random, out: &mut [u8]) -
 
 // Whether a list and its thinned list are alike inside the rectangle.
 fn are_alike(keys: &[u32], image: &[u8], asked: Rectangle, seed: Random) -> bool {
-    let mut other = [0u8; 65536];
+    let mut other = [0u8; format::MOST_BYTES];
     let length = write_thinned(keys, asked, seed, &mut other);
     if length < 64 {
         return false;
     }
-    if 65536 < length {
+    if format::MOST_BYTES < length {
         return false;
     }
     list_alike(image, &other[0..length], asked)

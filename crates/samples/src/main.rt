@@ -1,4 +1,4 @@
-// A test: the sample plates that are not proved as theorems, packings at their edges, and every refusal number but 16, through the public jobs.
+// A test: the sample plates that are not proved as theorems, packings at their edges, and every refusal number, through the public jobs.
 // Each case prints a line, and the last line counts those that were right.
 mod gates;
 mod images;
@@ -12,6 +12,7 @@ fn main() {
     let mut tally = say::none();
     tally = plates::dense(tally);
     tally = plates::packings(tally);
+    tally = plates::spread(tally);
     tally = plates::printed(tally);
     tally = refusals::headers(tally);
     tally = refusals::counts(tally);

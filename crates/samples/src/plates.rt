@@ -10,6 +10,7 @@ use crate::judge::accepts;
 use crate::judge::member_count;
 use crate::say::Tally;
 use crate::say::case;
+use format::MOST_BYTES;
 use testing::starts_with;
 use testing::starts_with_bytes;
 use testing::whole_square;
@@ -129,6 +130,51 @@ pub fn packings(tally: Tally) -> Tally {
     t = case(t, names, is_parted(run, 256, 1, 16, 0, 0));
     t = case(t, names, is_parted(run, 272, 2, 17, 16, 256));
     case(t, names, is_parted(run, 257, 2, 17, 16, 256))
+}
+
+// The image of 4,096 keys as far apart as they can be, in a buffer that has room for any image.
+fn spread_image() -> [u8; MOST_BYTES] {
+    let keys = steps(1048576);
+    let mut image = [0xeeu8; MOST_BYTES];
+    let length = length_of(writer::write_keys(&keys[0..4096], &mut image));
+    // A wrong length shows in the byte that the case of the length looks at.
+    if length != 23296 {
+        image[24639] = 0;
+    }
+    image
+}
+
+// Whether bands 4 to 8 have this many pages each.
+fn later_bands_have(image: &[u8], pages: u32) -> bool {
+    let mut band: usize = 4;
+    while band < 9 {
+        if number(image, 4 + 4 * band) != pages {
+            return false;
+        }
+        band += 1;
+    }
+    true
+}
+
+// Many pages: 363 of the 384 that no list exceeds.
+pub fn spread(tally: Tally) -> Tally {
+    let names: &[u8] = b"\
+        keys 0, 2^20 to 4,095 x 2^20: 23,296 bytes, and no byte after them is touched\n\
+        keys 0, 2^20 to 4,095 x 2^20: band 1 has one page\n\
+        keys 0, 2^20 to 4,095 x 2^20: band 2 has one page\n\
+        keys 0, 2^20 to 4,095 x 2^20: band 2 has 240 nodes, all 11\n\
+        keys 0, 2^20 to 4,095 x 2^20: band 3 has 16 pages\n\
+        keys 0, 2^20 to 4,095 x 2^20: bands 4 to 8 have 69 pages each\n\
+        keys 0, 2^20 to 4,095 x 2^20: accepted\n";
+    let spread = spread_image();
+    let image: &[u8] = &spread;
+    let mut t = case(tally, names, part_is(image, 23296, 24640, 0xee));
+    t = case(t, names, number(image, 8) == 1);
+    t = case(t, names, number(image, 12) == 1);
+    t = case(t, names, part_is(image, 132, 192, 0xff));
+    t = case(t, names, number(image, 16) == 16);
+    t = case(t, names, later_bands_have(image, 69));
+    accepts(t, names, image, 23296)
 }
 
 // Whether the listing program prints this text for an image.
