@@ -21,6 +21,7 @@ use Rattle.writer.specs.declared.Written.{Written}
 use Rattle.writer.specs.declared.Written.the-variants.{Length, Refused}
 use Rattle.capi.specs.Encoding.{WithinBound, WrittenToC, encoded}
 
+-- a length that the writer returns is within format's bound
 write-small : (list : List (ℕ × ℕ)) (buffer : List ℕ) (n : ℕ) → write list buffer ≡ returns n → n ≤ 24640
 unfolding write writeKeys
 write-small list buffer n e =
@@ -29,6 +30,7 @@ write-small list buffer n e =
     let q = of-writable keys (none-of-yes (listQuestions keys) (all-left Yes (listQuestions keys) (roomQuestion keys buffer ∷ []) (yes-of-none (listQuestions keys ++ roomQuestion keys buffer ∷ []) asked))) in
     omega (arith, same, page-bound .of-list keys (woven-fits list) (q .0) (q .1) .size)
 
+-- so is the one that its answer to the lent list holds
 pub within : (list : List Admission) (buffer : List ℕ) (t : Written) (buffer′ : List ℕ) → WrittenList list buffer t buffer′ → WithinBound t
 within list buffer (Length n) buffer′ w = write-small (pairsIn list) buffer n (sym (w .returned))
 within list buffer (Refused n) buffer′ w = tt

@@ -133,7 +133,7 @@ unfolding descend
 descend-snoc ps [] ns = refl
 descend-snoc ps (l ∷ levels) ns = descend-snoc (below ps l) levels ns
 
--- the prefixes x ∷ xs fit n bits
+-- the prefixes fit n bits
 abbrev pub Fits : ℕ → List ℕ → Type 0
 Fits n xs = All (λ x. x < 2 ^ n) xs
 

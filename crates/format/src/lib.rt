@@ -1,4 +1,4 @@
-// The types that the jobs share. The definitions of the format are in specs/, the laws about them in proofs/.
+// The types that the jobs share, and the most bytes of an image. The definitions of the format are in specs/, the laws about them in proofs/.
 ghost use mathlib.Core.Path.{_≡_};
 ghost use Rattle.format.specs.Band.{crossed};
 

@@ -12,7 +12,7 @@ fn main() {
     let mut tally = say::none();
     tally = plates::dense(tally);
     tally = plates::packings(tally);
-    tally = plates::spread(tally);
+    tally = plates::far_apart(tally);
     tally = plates::printed(tally);
     tally = refusals::headers(tally);
     tally = refusals::counts(tally);

@@ -1,4 +1,4 @@
-// The plates without a star, and packings at their edges.
+// The plates without a star, packings at their edges, and a list that needs many pages.
 use crate::images::five_nodes;
 use crate::images::length_of;
 use crate::images::no_key;
@@ -133,13 +133,13 @@ pub fn packings(tally: Tally) -> Tally {
 }
 
 // The image of 4,096 keys as far apart as they can be, in a buffer that has room for any image.
-fn spread_image() -> [u8; MOST_BYTES] {
+fn far_apart_image() -> [u8; MOST_BYTES] {
     let keys = steps(1048576);
     let mut image = [0xeeu8; MOST_BYTES];
     let length = length_of(writer::write_keys(&keys[0..4096], &mut image));
     // A wrong length shows in the byte that the case of the length looks at.
     if length != 23296 {
-        image[24639] = 0;
+        image[MOST_BYTES - 1] = 0;
     }
     image
 }
@@ -157,7 +157,7 @@ fn later_bands_have(image: &[u8], pages: u32) -> bool {
 }
 
 // Many pages: 363 of the 384 that no list exceeds.
-pub fn spread(tally: Tally) -> Tally {
+pub fn far_apart(tally: Tally) -> Tally {
     let names: &[u8] = b"\
         keys 0, 2^20 to 4,095 x 2^20: 23,296 bytes, and no byte after them is touched\n\
         keys 0, 2^20 to 4,095 x 2^20: band 1 has one page\n\
@@ -166,9 +166,9 @@ pub fn spread(tally: Tally) -> Tally {
         keys 0, 2^20 to 4,095 x 2^20: band 3 has 16 pages\n\
         keys 0, 2^20 to 4,095 x 2^20: bands 4 to 8 have 69 pages each\n\
         keys 0, 2^20 to 4,095 x 2^20: accepted\n";
-    let spread = spread_image();
-    let image: &[u8] = &spread;
-    let mut t = case(tally, names, part_is(image, 23296, 24640, 0xee));
+    let written = far_apart_image();
+    let image: &[u8] = &written;
+    let mut t = case(tally, names, part_is(image, 23296, MOST_BYTES, 0xee));
     t = case(t, names, number(image, 8) == 1);
     t = case(t, names, number(image, 12) == 1);
     t = case(t, names, part_is(image, 132, 192, 0xff));
