@@ -13,13 +13,15 @@ use lib.Seq.{take-add, drop-drop, take-all, take-at, drop-at, length-take-le}
 use Rattle.format.specs.Seq.{All, numbersFrom, total}
 use Rattle.format.specs.Trie.{below, descend, levelsOf, levelsOver, nodesOver, onBits, parents}
 use Rattle.format.specs.Page.{Byte, numberAt, twoBytes}
+use Rattle.format.specs.Header.{header, headerEnd, headerStart, mark}
 use Rattle.format.specs.Image.{bandLevels, bands, imageLevels, keyCount, keysOf, pageCount, pageNumber, pagesBefore, rootCount}
 use Rattle.format.specs.Question.{outLinksDue}
-use Rattle.format.specs.Writer.{bandBytes, bandCounts, bandsIn, bandsOf, header, imageOf, pagesOf}
+use Rattle.format.specs.Writer.{bandBytes, bandCounts, bandsIn, bandsOf, imageOf, pagesOf}
 use Rattle.format.proofs.Lists.{all-numbers, length-numbers, length-flatMap, flatMap-map, numbers-split, total-append}
 use Rattle.format.proofs.Trie.{Shape, levels-back}
 use Rattle.format.proofs.Shapes.{lastOn, lastOn-append, shape-append, Keys, descend-keys}
 use Rattle.format.proofs.Bytes.{twoBytes-back, zeros-are}
+use Rattle.format.proofs.HeaderBytes.{count-bytes, countBytes}
 use Rattle.format.proofs.Checked.{Counts, no-keys, some-keys, Checked, cond-yes, cond-no}
 use Rattle.format.proofs.Read.{band-four, band-roots, band-shape, band-last, band-bytes, band-page-count}
 
@@ -142,16 +144,16 @@ module _ (img : List ℕ) (a : All Byte img) (c : Checked img) where
 
   -- ---- the header
 
-  six : take 6 img ≡ 0x4C ∷ 0x50 ∷ 0x54 ∷ 0 ∷ 1 ∷ 0 ∷ []
-  unfolding numberAt
-  six =
+  start : take 6 img ≡ headerStart
+  unfolding headerStart mark twoBytes numberAt
+  start =
       let h = c .header in
       let x : getD img 3 0 ≡ 0 = omega (arith, h .version) in
       let y : getD img 4 0 ≡ 1 = omega (arith, h .version) in
-      first-six img (omega (arith, h .long)) ∙ (λ i. h .mark₀ i ∷ h .mark₁ i ∷ h .mark₂ i ∷ x i ∷ y i ∷ h .five i ∷ [])
+      first-six img (omega (arith, h .long)) ∙ (λ i. h .marked 0 (omega arith) i ∷ h .marked 1 (omega arith) i ∷ h .marked 2 (omega arith) i ∷ x i ∷ y i ∷ h .five i ∷ [])
 
-  counts-at : (b : ℕ) → 1 ≤ b → b ≤ 8 → bandCounts (bandLevels img b) ≡ take 4 (drop (4 + 4 * b) img)
-  unfolding bandCounts pageCount rootCount
+  counts-at : (b : ℕ) → 1 ≤ b → b ≤ 8 → countBytes (bandLevels img b) ≡ take 4 (drop (4 + 4 * b) img)
+  unfolding pageCount rootCount
   counts-at b lo hi =
       let h = c .header .long in
       let e : 4 + 4 * b + 2 ≡ 6 + 4 * b = omega arith in
@@ -159,7 +161,7 @@ module _ (img : List ℕ) (a : All Byte img) (c : Checked img) where
       ∙ ap₂ _++_ (twoBytes-back img (4 + 4 * b) (omega arith) a) (twoBytes-back img (6 + 4 * b) (omega arith) a)
       ∙ sym (take-add 2 2 (drop (4 + 4 * b) img) ∙ ap (λ (l : List ℕ). take 2 (drop (4 + 4 * b) img) ++ take 2 l) (drop-drop 2 (4 + 4 * b) img ∙ ap (λ (n : ℕ). drop n img) e))
 
-  all-counts : (b n : ℕ) → 1 ≤ b → b + n ≤ 9 → flatMap bandCounts (map (bandLevels img) (numbersFrom b n)) ≡ take (4 * n) (drop (4 + 4 * b) img)
+  all-counts : (b n : ℕ) → 1 ≤ b → b + n ≤ 9 → flatMap countBytes (map (bandLevels img) (numbersFrom b n)) ≡ take (4 * n) (drop (4 + 4 * b) img)
   unfolding flatMap numbersFrom
   all-counts b zero lo e = refl
   all-counts b (suc n) lo e =
@@ -170,16 +172,16 @@ module _ (img : List ℕ) (a : All Byte img) (c : Checked img) where
       ∙ take-add 4 (4 * n) (drop (4 + 4 * b) img)
       ∙ ap (λ (l : List ℕ). take 4 (drop (4 + 4 * b) img) ++ take (4 * n) l) (drop-drop 4 (4 + 4 * b) img ∙ ap (λ (k : ℕ). drop k img) next))
 
-  pub header-back : header (keyCount img) (map (bandLevels img) bands) ≡ take 64 img
-  unfolding header keyCount bands
+  pub header-back : header (keyCount img) (flatMap bandCounts (map (bandLevels img) bands)) ≡ take 64 img
+  unfolding header headerEnd keyCount bands
   header-back =
       let h = c .header in
       let long = h .long in
-      let tail : replicate 24 0 ≡ take 24 (drop 40 img) = sym (zeros-are (take 24 (drop 40 img)) (h .tail) ∙ ap (λ (n : ℕ). replicate n 0) (length-take-le 24 (drop 40 img) (omega (arith, length-drop 40 img)))) in
-      let start : 0x4C ∷ 0x50 ∷ 0x54 ∷ 0 ∷ 1 ∷ 0 ∷ twoBytes (numberAt img 6) ≡ take 8 img =
-      ap₂ _++_ (sym six) (twoBytes-back img 6 (omega arith) a) ∙ sym (take-add 6 2 img) in
-      let counts : flatMap bandCounts (map (bandLevels img) (numbersFrom 1 8)) ≡ take 32 (drop 8 img) = all-counts 1 8 (omega arith) (omega arith) in
-      (λ i. start i ++ counts i ++ tail i)
+      let end : headerEnd ≡ take 24 (drop 40 img) = sym (zeros-are (take 24 (drop 40 img)) (h .tail) ∙ ap (λ (n : ℕ). replicate n 0) (length-take-le 24 (drop 40 img) (omega (arith, length-drop 40 img)))) in
+      let eight : headerStart ++ twoBytes (numberAt img 6) ≡ take 8 img = ap₂ _++_ (sym start) (twoBytes-back img 6 (omega arith) a) ∙ sym (take-add 6 2 img) in
+      let counts : flatMap twoBytes (flatMap bandCounts (map (bandLevels img) (numbersFrom 1 8))) ≡ take 32 (drop 8 img) =
+      count-bytes (map (bandLevels img) (numbersFrom 1 8)) ∙ all-counts 1 8 (omega arith) (omega arith) in
+      (λ i. eight i ++ counts i ++ end i)
       ∙ append-assoc (take 8 img) (take 32 (drop 8 img)) (take 24 (drop 40 img))
       ∙ sym (take-add 8 56 img ∙ ap (take 8 img ++_) (take-add 32 24 (drop 8 img) ∙ ap (λ (l : List ℕ). take 32 (drop 8 img) ++ take 24 l) (drop-drop 32 8 img)))
 
@@ -212,6 +214,6 @@ module _ (img : List ℕ) (a : All Byte img) (c : Checked img) where
   pub image-back : imageOf (keysOf img) ≡ img
   unfolding imageOf
   image-back =
-      ap₂ (λ (n : ℕ) (bs : List (List (List ℕ))). header n bs ++ flatMap (λ band. bandBytes 0 0 (pagesOf band)) bs) (listed .keys .count-is) bands-of
+      ap₂ (λ (n : ℕ) (bs : List (List (List ℕ))). header n (flatMap bandCounts bs) ++ flatMap (λ band. bandBytes 0 0 (pagesOf band)) bs) (listed .keys .count-is) bands-of
       ∙ ap₂ _++_ header-back pages-back
       ∙ take-append-drop 64 img

@@ -12,6 +12,7 @@ use borrow.Author.Tests.{eqb-true, leb-true, ltb-true, eq-eqb, ne-eqb, le-leb, l
 use lib.ListN.{length, getD, take, drop}
 use Rattle.format.specs.Seq.{All, every, numbersFrom, total, upTo}
 use Rattle.format.specs.Page.{firstSubtries, nodeCount, numberAt}
+use Rattle.format.specs.Header.{mark}
 use Rattle.format.specs.Image.{bands, keyCount, outLinkCount, pageB, pageCount, pageLevels, pageNodes, pagePairs, pageRoots, pageT, rootCount}
 use Rattle.format.specs.Question.{Yes, bandQuestions, countsFit, firstNo, headRight, headerQuestions, imageQuestions, isPositive, isZero, markRight, outLinksDue, pageNeeded, pageQuestions}
 use Rattle.format.proofs.Lists.{and-left, and-right, and-both, all-append, all-left, all-right, all-flatMap, flatMap-all, all-upTo, upTo-all, all-numbers, numbers-all, every-all, all-every}
@@ -31,9 +32,7 @@ pub data Counts (img : List ℕ) : Type 0 where
 
 pub record Header (img : List ℕ) : Type 0 where
   pub long : 64 ≤ length img
-  pub mark₀ : getD img 0 0 ≡ 0x4C
-  pub mark₁ : getD img 1 0 ≡ 0x50
-  pub mark₂ : getD img 2 0 ≡ 0x54
+  pub marked : (i : ℕ) → i < 3 → getD img i 0 ≡ getD mark i 0
   pub version : numberAt img 3 ≡ 1
   pub few : keyCount img ≤ 4096
   pub five : getD img 5 0 ≡ 0
@@ -90,16 +89,15 @@ of-counts img (some-keys h p r f) =
     ∙ and-both (and-both (eq-eqb (pageCount img 1) 1 p) (eq-eqb (rootCount img 1) 1 r))
     (all-every (allSome img) (numbersFrom 2 7) (all-numbers (λ b. allSome img b ≡ true) 2 7 (λ b lo hi. and-both (le-leb 1 (pageCount img b) (f b lo (omega arith) .0)) (le-leb 1 (rootCount img b) (f b lo (omega arith) .1)))))
 
+abbrev markAt : List ℕ → ℕ → Bool
+markAt img i = eqb (getD img i 0) (getD mark i 0)
+
 header-of : (img : List ℕ) → All Yes (headerQuestions img) → Header img
 unfolding headerQuestions markRight isZero
 header-of img h =
-    let m = h .1 .0 in
-    let m₀₁ = and-left (eqb (getD img 0 0) 0x4C && eqb (getD img 1 0) 0x50) (eqb (getD img 2 0) 0x54) m in
     record {
       long = leb-true 64 (length img) (h .0);
-      mark₀ = eqb-true (getD img 0 0) 0x4C (and-left (eqb (getD img 0 0) 0x4C) (eqb (getD img 1 0) 0x50) m₀₁);
-      mark₁ = eqb-true (getD img 1 0) 0x50 (and-right (eqb (getD img 0 0) 0x4C) (eqb (getD img 1 0) 0x50) m₀₁);
-      mark₂ = eqb-true (getD img 2 0) 0x54 (and-right (eqb (getD img 0 0) 0x4C && eqb (getD img 1 0) 0x50) (eqb (getD img 2 0) 0x54) m);
+      marked = λ i l. eqb-true (getD img i 0) (getD mark i 0) (upTo-all (λ i. markAt img i ≡ true) 3 (every-all (markAt img) (upTo 3) (h .1 .0)) i l);
       version = eqb-true (numberAt img 3) 1 (h .1 .1 .0);
       few = leb-true (keyCount img) 4096 (h .1 .1 .1 .0);
       five = eqb-true (getD img 5 0) 0 (and-left (eqb (getD img 5 0) 0) (every isZero (take 24 (drop 40 img))) (h .1 .1 .1 .1 .0));
@@ -113,7 +111,7 @@ unfolding headerQuestions markRight isZero
 of-header img h = (
   le-leb 64 (length img) (h .long),
   (
-    and-both (and-both (eq-eqb (getD img 0 0) 0x4C (h .mark₀)) (eq-eqb (getD img 1 0) 0x50 (h .mark₁))) (eq-eqb (getD img 2 0) 0x54 (h .mark₂)),
+    all-every (markAt img) (upTo 3) (all-upTo (λ i. markAt img i ≡ true) 3 (λ i l. eq-eqb (getD img i 0) (getD mark i 0) (h .marked i l))),
     (
       eq-eqb (numberAt img 3) 1 (h .version),
       (

@@ -9,8 +9,9 @@ use lib.Seq.{take-add, drop-drop, take-all, length-take-le}
 use Rattle.format.specs.Seq.{All, numbersFrom}
 use Rattle.format.specs.Trie.{below, descend, levelsOf, levelsOver, nodesOver, onBits, parents}
 use Rattle.format.specs.Page.{Byte}
+use Rattle.format.specs.Header.{header}
 use Rattle.format.specs.Image.{bandLevels, bands, imageLevels, keysOf}
-use Rattle.format.specs.Writer.{bandBytes, bandsIn, bandsOf, header, imageOf, pagesOf, rootsIn}
+use Rattle.format.specs.Writer.{bandBytes, bandCounts, bandsIn, bandsOf, imageOf, pagesOf, rootsIn}
 use Rattle.format.proofs.Lists.{all-numbers, flatMap-same}
 use Rattle.format.proofs.Trie.{Shape, Fits, Asc, levels-spell}
 use Rattle.format.proofs.Shapes.{lastOn, lastOn-append, shape-left, shape-right, levels-formed, length-levelsOver}
@@ -116,7 +117,7 @@ key-bands keys a f few =
 
 pub image-bytes : (keys : List ℕ) → imageOf keys ≡ bytesOf (length keys) (bandAt (levelsOf keys))
 unfolding imageOf
-image-bytes keys = ap (λ (bs : List (List (List ℕ))). header (length keys) bs ++ flatMap (λ x. bandBytes 0 0 (pagesOf x)) bs) (bandsOf-row keys)
+image-bytes keys = ap (λ (bs : List (List (List ℕ))). header (length keys) (flatMap bandCounts bs) ++ flatMap (λ x. bandBytes 0 0 (pagesOf x)) bs) (bandsOf-row keys)
 
 levels-found : (img : List ℕ) (levels : List (List ℕ)) → length levels ≡ 32 → ((b : ℕ) → 1 ≤ b → b ≤ 8 → bandLevels img b ≡ bandAt levels b) → imageLevels img ≡ levels
 unfolding imageLevels bands

@@ -8,19 +8,21 @@ use native.Mathlib.Omega.{arith}
 use native.Mathlib.Decide.{ℕ-discrete}
 use lib.Dec.{ltb}
 use borrow.Author.Tests.{lt-ltb, le-ltb}
-use lib.ListN.{length, getD, take, drop, replicate, length-append}
-use lib.Seq.{drop-drop, drop-at, getD-take}
+use lib.ListN.{length, getD, take, drop, replicate, length-append, List·getD-append}
+use lib.Seq.{drop-drop, drop-at, take-at, getD-take}
 use Rattle.format.specs.Seq.{All, numbersFrom, total, upTo}
 use Rattle.format.specs.Trie.{onBits}
 use Rattle.format.specs.Page.{Byte, numberAt, twoBytes}
+use Rattle.format.specs.Header.{header, headerEnd, headerStart, mark}
 use Rattle.format.specs.Image.{bandLevels, bands, keyCount, outLinkCount, pageCount, pageLevels, pageNumber, pagesBefore, rootCount}
 use Rattle.format.specs.Question.{outLinksDue}
-use Rattle.format.specs.Writer.{bandBytes, bandCounts, header, pageBytes, pagesOf, rootsIn}
-use Rattle.format.proofs.Lists.{all-append, all-numbers, all-flatMap, all-map, all-to, length-flatMap, map-same}
+use Rattle.format.specs.Writer.{bandBytes, bandCounts, pageBytes, pagesOf, rootsIn}
+use Rattle.format.proofs.Lists.{all-append, all-numbers, all-flatMap, all-map, all-to, map-same}
 use Rattle.format.proofs.Trie.{Shape}
 use Rattle.format.proofs.Shapes.{lastOn-grows}
 use Rattle.format.proofs.Pages.{Paged, glue, glue-roots, glue-links, lastOn-four, Pages, pages-of}
 use Rattle.format.proofs.Bytes.{number-of, twoBytes-small, zeros-all, pageBytes-small}
+use Rattle.format.proofs.HeaderBytes.{count-bytes, countBytes, header-parts, length-counts, length-end, length-header, length-start, length-two}
 use Rattle.format.proofs.Checked.{Counts, no-keys, some-keys, Header, Checked, cond-yes, cond-no}
 use Rattle.format.proofs.Read.{band-glued}
 use Rattle.format.proofs.Back.{pagesBefore-suc}
@@ -43,7 +45,7 @@ pub record Bands (n : ℕ) (band : ℕ → List (List ℕ)) : Type 0 where
 
 -- their bytes
 abbrev pub bytesOf : ℕ → (ℕ → List (List ℕ)) → List ℕ
-bytesOf n band = header n (map band bands) ++ flatMap (λ x. bandBytes 0 0 (pagesOf x)) (map band bands)
+bytesOf n band = header n (flatMap bandCounts (map band bands)) ++ flatMap (λ x. bandBytes 0 0 (pagesOf x)) (map band bands)
 
 paged-length : (ps : List (List (List ℕ))) → Paged ps → length ps ≤ rootsIn (glue ps)
 paged-length [] h = omega arith
@@ -55,10 +57,6 @@ bytes-small t o [] h ht ho = tt
 bytes-small t o (p ∷ ps) h ht ho =
     all-append Byte (pageBytes t o p) (bandBytes (t + rootsIn p) (o + onBits (getD p 3 [])) ps) (pageBytes-small t o (rootsIn p) p (omega arith) (omega arith) (h .0 .shape))
     (bytes-small (t + rootsIn p) (o + onBits (getD p 3 [])) ps (h .2) (omega (arith, glue-roots p ps h)) (omega arith))
-
-length-counts : (x : List (List ℕ)) → length (bandCounts x) ≡ 4
-unfolding bandCounts twoBytes
-length-counts x = refl
 
 length-pages : (band : ℕ → List (List ℕ)) (xs : List ℕ) → length (flatMap (λ x. bandBytes 0 0 (pagesOf x)) (map band xs)) ≡ 64 * total (map (λ b. length (pagesOf (band b))) xs)
 unfolding flatMap total
@@ -102,21 +100,12 @@ module _ (n : ℕ) (band : ℕ → List (List ℕ)) (h : Bands n band) where
 
 -- ---- the bytes, read
 
-length-header : (n : ℕ) (xs : List (List (List ℕ))) → length xs ≡ 8 → length (header n xs) ≡ 64
-unfolding header twoBytes
-length-header n xs e =
-    length-append (0x4C ∷ 0x50 ∷ 0x54 ∷ 0 ∷ 1 ∷ 0 ∷ twoBytes n ++ flatMap bandCounts xs) (replicate 24 0) ∙ omega (arith, length-flatMap bandCounts 4 xs (all xs))
-  where
-    all : (xs : List (List (List ℕ))) → All (λ x. length (bandCounts x) ≡ 4) xs
-    all [] = tt
-    all (x ∷ xs) = (length-counts x, all xs)
-
 -- the parts of the bytes
 pub record Parts (n : ℕ) (band : ℕ → List (List ℕ)) (img : List ℕ) : Type 0 where
-  pub six : take 6 img ≡ 0x4C ∷ 0x50 ∷ 0x54 ∷ 0 ∷ 1 ∷ 0 ∷ []
-  pub from-6 : drop 6 img ≡ twoBytes n ++ (flatMap bandCounts (map band bands) ++ (replicate 24 0 ++ flatMap (λ x. bandBytes 0 0 (pagesOf x)) (map band bands)))
-  pub from-8 : drop 8 img ≡ flatMap bandCounts (map band bands) ++ (replicate 24 0 ++ flatMap (λ x. bandBytes 0 0 (pagesOf x)) (map band bands))
-  pub from-40 : take 24 (drop 40 img) ≡ replicate 24 0
+  pub start : take 6 img ≡ headerStart
+  pub from-6 : drop 6 img ≡ twoBytes n ++ (flatMap twoBytes (flatMap bandCounts (map band bands)) ++ (headerEnd ++ flatMap (λ x. bandBytes 0 0 (pagesOf x)) (map band bands)))
+  pub from-8 : drop 8 img ≡ flatMap countBytes (map band bands) ++ (headerEnd ++ flatMap (λ x. bandBytes 0 0 (pagesOf x)) (map band bands))
+  pub from-40 : take 24 (drop 40 img) ≡ headerEnd
   pub from-64 : drop 64 img ≡ flatMap (λ x. bandBytes 0 0 (pagesOf x)) (map band bands)
   pub size : length img ≡ 64 * (1 + total (map (λ b. length (pagesOf (band b))) bands))
 
@@ -124,55 +113,46 @@ eight : (band : ℕ → List (List ℕ)) → length (map band bands) ≡ 8
 unfolding bands numbersFrom
 eight band = refl
 
-length-32 : (xs : List (List (List ℕ))) → length xs ≡ 8 → length (flatMap bandCounts xs) ≡ 32
-length-32 xs e = length-flatMap bandCounts 4 xs (all xs) ∙ omega arith
-  where
-    all : (xs : List (List (List ℕ))) → All (λ x. length (bandCounts x) ≡ 4) xs
-    all [] = tt
-    all (x ∷ xs) = (length-counts x, all xs)
-
-header-parts : (n : ℕ) (F R body : List ℕ) → (0x4C ∷ 0x50 ∷ 0x54 ∷ 0 ∷ 1 ∷ 0 ∷ twoBytes n ++ F ++ R) ++ body ≡ 0x4C ∷ 0x50 ∷ 0x54 ∷ 0 ∷ 1 ∷ 0 ∷ twoBytes n ++ (F ++ (R ++ body))
-header-parts n F R body = simp append-assoc
-
 pub parts : (n : ℕ) (band : ℕ → List (List ℕ)) → Parts n band (bytesOf n band)
-unfolding header
 parts n band =
-    let F = flatMap bandCounts (map band bands) in
-    let R : List ℕ = replicate 24 0 in
+    let counts = flatMap bandCounts (map band bands) in
     let body = flatMap (λ x. bandBytes 0 0 (pagesOf x)) (map band bands) in
-    let e : bytesOf n band ≡ 0x4C ∷ 0x50 ∷ 0x54 ∷ 0 ∷ 1 ∷ 0 ∷ twoBytes n ++ (F ++ (R ++ body)) = header-parts n F R body in
-    let e₈ : drop 8 (bytesOf n band) ≡ F ++ (R ++ body) = ap (drop 8) e ∙ (unfold twoBytes in refl) in
+    let sixteen : length counts ≡ 16 = omega (arith, length-counts (map band bands), eight band) in
+    let rest = flatMap twoBytes counts ++ (headerEnd ++ body) in
+    let e : bytesOf n band ≡ headerStart ++ (twoBytes n ++ rest) = header-parts n counts body in
+    let e₆ : drop 6 (bytesOf n band) ≡ twoBytes n ++ rest = ap (drop 6) e ∙ drop-at headerStart (twoBytes n ++ rest) 6 length-start in
+    let e₈ : drop 8 (bytesOf n band) ≡ rest = sym (drop-drop 2 6 (bytesOf n band)) ∙ ap (drop 2) e₆ ∙ (unfold twoBytes in refl) in
     record {
-      six = ap (take 6) e;
-      from-6 = ap (drop 6) e;
-      from-8 = e₈;
-      from-40 = ap (take 24) (sym (drop-drop 32 8 (bytesOf n band)) ∙ ap (drop 32) e₈ ∙ drop-at F (R ++ body) 32 (length-32 (map band bands) (eight band)));
-      from-64 = drop-at (header n (map band bands)) body 64 (length-header n (map band bands) (eight band));
-      size = length-append (header n (map band bands)) body ∙ omega (arith, length-header n (map band bands) (eight band), length-pages band bands);
+      start = ap (take 6) e ∙ take-at headerStart (twoBytes n ++ rest) 6 length-start;
+      from-6 = e₆;
+      from-8 = e₈ ∙ ap (_++ (headerEnd ++ body)) (count-bytes (map band bands));
+      from-40 = ap (take 24) (sym (drop-drop 32 8 (bytesOf n band)) ∙ ap (drop 32) e₈ ∙ drop-at (flatMap twoBytes counts) (headerEnd ++ body) 32 (omega (arith, length-two counts))) ∙ take-at headerEnd body 24 length-end;
+      from-64 = drop-at (header n counts) body 64 (length-header n counts sixteen);
+      size = length-append (header n counts) body ∙ omega (arith, length-header n counts sixteen, length-pages band bands);
     }
 
-counts-from : (band : ℕ → List (List ℕ)) (img R : List ℕ) → drop 8 img ≡ flatMap bandCounts (map band bands) ++ R
-    → (k m : ℕ) → suc k + m ≡ 9 → drop (4 + 4 * suc k) img ≡ flatMap bandCounts (map band (numbersFrom (suc k) m)) ++ R
+counts-from : (band : ℕ → List (List ℕ)) (img R : List ℕ) → drop 8 img ≡ flatMap countBytes (map band bands) ++ R
+    → (k m : ℕ) → suc k + m ≡ 9 → drop (4 + 4 * suc k) img ≡ flatMap countBytes (map band (numbersFrom (suc k) m)) ++ R
 unfolding flatMap numbersFrom bands
 counts-from band img R e zero m n =
     let eight : 8 ≡ m = omega arith in
-    e ∙ ap (λ (m : ℕ). flatMap bandCounts (map band (numbersFrom 1 m)) ++ R) eight
+    e ∙ ap (λ (m : ℕ). flatMap countBytes (map band (numbersFrom 1 m)) ++ R) eight
 counts-from band img R e (suc k) m n =
     let next : 4 + 4 * suc (suc k) ≡ 4 + 4 * suc k + 4 = omega arith in
-    let more = flatMap bandCounts (map band (numbersFrom (suc (suc k)) m)) ++ R in
+    let more = flatMap countBytes (map band (numbersFrom (suc (suc k)) m)) ++ R in
     ap (λ (j : ℕ). drop j img) next
     ∙ sym (drop-drop 4 (4 + 4 * suc k) img)
-    ∙ ap (drop 4) (counts-from band img R e k (suc m) (omega arith) ∙ append-assoc (bandCounts (band (suc k))) (flatMap bandCounts (map band (numbersFrom (suc (suc k)) m))) R)
-    ∙ drop-at (bandCounts (band (suc k))) more 4 (length-counts (band (suc k)))
+    ∙ ap (drop 4) (counts-from band img R e k (suc m) (omega arith) ∙ append-assoc (countBytes (band (suc k))) (flatMap countBytes (map band (numbersFrom (suc (suc k)) m))) R)
+    ∙ drop-at (countBytes (band (suc k))) more 4 (unfold twoBytes in refl)
 
 record CountsAt (band : ℕ → List (List ℕ)) (img : List ℕ) (b : ℕ) : Type 0 where
   pages-are : pageCount img b ≡ length (pagesOf (band b))
   roots-are : rootCount img b ≡ rootsIn (band b)
 
-counts-at : (band : ℕ → List (List ℕ)) (img R : List ℕ) → drop 8 img ≡ flatMap bandCounts (map band bands) ++ R → (k m : ℕ) → suc k + suc m ≡ 9 → CountsAt band img (suc k)
-unfolding flatMap numbersFrom bandCounts pageCount rootCount
+counts-at : (band : ℕ → List (List ℕ)) (img R : List ℕ) → drop 8 img ≡ flatMap countBytes (map band bands) ++ R → (k m : ℕ) → suc k + suc m ≡ 9 → CountsAt band img (suc k)
+unfolding flatMap numbersFrom pageCount rootCount
 counts-at band img R e k m n =
-    let more = flatMap bandCounts (map band (numbersFrom (suc (suc k)) m)) ++ R in
+    let more = flatMap countBytes (map band (numbersFrom (suc (suc k)) m)) ++ R in
     let here : drop (4 + 4 * suc k) img ≡ twoBytes (length (pagesOf (band (suc k)))) ++ (twoBytes (rootsIn (band (suc k))) ++ more) = counts-from band img R e k (suc m) n ∙ simp append-assoc in
     let next : 4 + 4 * suc k + 2 ≡ 6 + 4 * suc k = omega arith in
     let there : drop (6 + 4 * suc k) img ≡ twoBytes (rootsIn (band (suc k))) ++ more = ap (λ (j : ℕ). drop j img) (sym next) ∙ sym (drop-drop 2 (4 + 4 * suc k) img) ∙ ap (drop 2) here ∙ (unfold twoBytes in refl) in
@@ -254,19 +234,17 @@ module _ (n : ℕ) (band : ℕ → List (List ℕ)) (h : Bands n band) (img : Li
               (omega (arith, counts-in b lo hi .pages-are, some-pages n band h b lo hi s), omega (arith, counts-in b lo hi .roots-are))
 
   header-ok : Header img
-  unfolding numberAt
+  unfolding numberAt headerStart headerEnd mark twoBytes
   header-ok =
-      let at : (k : ℕ) → k < 6 → getD img k 0 ≡ getD (take 6 img) k 0 = λ k l. sym (getD-take 6 img k 0 l) in
-      let x : getD img 3 0 ≡ 0 = at 3 (omega arith) ∙ ap (λ (l : List ℕ). getD l 3 0) (p .six) in
-      let y : getD img 4 0 ≡ 1 = at 4 (omega arith) ∙ ap (λ (l : List ℕ). getD l 4 0) (p .six) in
+      let at : (k : ℕ) → k < 6 → getD img k 0 ≡ getD headerStart k 0 = λ k l. sym (getD-take 6 img k 0 l) ∙ ap (λ (l : List ℕ). getD l k 0) (p .start) in
+      let x : getD img 3 0 ≡ 0 = at 3 (omega arith) in
+      let y : getD img 4 0 ≡ 1 = at 4 (omega arith) in
       record {
         long = omega (arith, p .size);
-        mark₀ = at 0 (omega arith) ∙ ap (λ (l : List ℕ). getD l 0 0) (p .six);
-        mark₁ = at 1 (omega arith) ∙ ap (λ (l : List ℕ). getD l 1 0) (p .six);
-        mark₂ = at 2 (omega arith) ∙ ap (λ (l : List ℕ). getD l 2 0) (p .six);
+        marked = λ k l. at k (omega arith) ∙ List·getD-append mark (drop 3 headerStart) 0 k l;
         version = omega arith;
         few = rw keys-in (h .few);
-        five = at 5 (omega arith) ∙ ap (λ (l : List ℕ). getD l 5 0) (p .six);
+        five = at 5 (omega arith);
         tail = rw (p .from-40) (zeros-all 24);
         size = p .size ∙ ap (λ (l : List ℕ). 64 * (1 + total l)) (map-same (λ b. length (pagesOf (band b))) (pageCount img) bands (unfold bands in all-numbers (λ b. length (pagesOf (band b)) ≡ pageCount img b) 1 8 (λ b lo hi. sym (counts-in b lo (omega arith) .pages-are))));
         counts = counts-ok;
@@ -286,8 +264,7 @@ module _ (n : ℕ) (band : ℕ → List (List ℕ)) (h : Bands n band) (img : Li
 
 -- and they are bytes
 module _ (n : ℕ) (band : ℕ → List (List ℕ)) (h : Bands n band) where
-  counts-bytes : (b : ℕ) → 1 ≤ b → b ≤ 8 → All Byte (bandCounts (band b))
-  unfolding bandCounts
+  counts-bytes : (b : ℕ) → 1 ≤ b → b ≤ 8 → All Byte (countBytes (band b))
   counts-bytes b lo hi =
       let r = few-roots n band h b lo hi in
       let f = h .few in
@@ -300,18 +277,29 @@ module _ (n : ℕ) (band : ℕ → List (List ℕ)) (h : Bands n band) where
       bytes-small 0 0 (pagesOf (band b)) (g .paged) (omega (arith, few-roots n band h b lo hi, ap rootsIn (g .glued)))
       (omega (arith, few-links n band h b lo hi, glue-links (pagesOf (band b)) (g .paged), ap (λ (v : List (List ℕ)). onBits (getD v 3 [])) (g .glued)))
 
-  header-bytes : All Byte (header n (map band bands))
-  unfolding header bands
+  start-bytes : All Byte headerStart
+  unfolding headerStart mark twoBytes
+  start-bytes = (omega arith, (omega arith, (omega arith, (omega arith, (omega arith, (omega arith, tt))))))
+
+  end-bytes : All Byte headerEnd
+  unfolding headerEnd
+  end-bytes = all-to (λ z. z ≡ 0) Byte (λ z e. omega arith) (replicate 24 0) (zeros-all 24)
+
+  all-counts : All Byte (flatMap twoBytes (flatMap bandCounts (map band bands)))
+  unfolding bands
+  all-counts =
+      rw (count-bytes (map band bands)) (all-flatMap countBytes Byte (map band bands) (all-map band (λ x. All Byte (countBytes x)) bands (all-numbers (λ b. All Byte (countBytes (band b))) 1 8 (λ b lo hi. counts-bytes b lo (omega arith)))))
+
+  header-bytes : All Byte (header n (flatMap bandCounts (map band bands)))
+  unfolding header
   header-bytes =
-      let start : List ℕ = 0x4C ∷ 0x50 ∷ 0x54 ∷ 0 ∷ 1 ∷ 0 ∷ twoBytes n in
-      let counts = flatMap bandCounts (map band bands) in
-      all-append Byte (start ++ counts) (replicate 24 0)
-      (all-append Byte start counts (omega arith, (omega arith, (omega arith, (omega arith, (omega arith, (omega arith, twoBytes-small n (omega (arith, h .few))))))))
-      (all-flatMap bandCounts Byte (map band bands) (all-map band (λ x. All Byte (bandCounts x)) bands (all-numbers (λ b. All Byte (bandCounts (band b))) 1 8 (λ b lo hi. counts-bytes b lo (omega arith))))))
-      (all-to (λ z. z ≡ 0) Byte (λ z e. omega arith) (replicate 24 0) (zeros-all 24))
+      let counts = flatMap twoBytes (flatMap bandCounts (map band bands)) in
+      all-append Byte (headerStart ++ twoBytes n ++ counts) headerEnd
+      (all-append Byte (headerStart ++ twoBytes n) counts (all-append Byte headerStart (twoBytes n) start-bytes (twoBytes-small n (omega (arith, h .few)))) all-counts)
+      end-bytes
 
   pub all-bytes : All Byte (bytesOf n band)
   unfolding bands
   all-bytes =
-      all-append Byte (header n (map band bands)) (flatMap (λ x. bandBytes 0 0 (pagesOf x)) (map band bands)) header-bytes
+      all-append Byte (header n (flatMap bandCounts (map band bands))) (flatMap (λ x. bandBytes 0 0 (pagesOf x)) (map band bands)) header-bytes
       (all-flatMap (λ x. bandBytes 0 0 (pagesOf x)) Byte (map band bands) (all-map band (λ x. All Byte (bandBytes 0 0 (pagesOf x))) bands (all-numbers (λ b. All Byte (bandBytes 0 0 (pagesOf (band b)))) 1 8 (λ b lo hi. pages-bytes b lo (omega arith)))))

@@ -3,6 +3,7 @@ pub mod Key
 pub mod Trie
 pub mod Band
 pub mod Page
+pub mod Header
 pub mod Image
 pub mod Question
 pub mod Writer

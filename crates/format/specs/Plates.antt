@@ -12,9 +12,13 @@ use Rattle.format.specs.Question.{returns}
 use Rattle.format.specs.Answer.{check, count, memberKeys}
 use Rattle.format.specs.declared.Rectangle.{Rectangle}
 
+-- the first six bytes, written out, so that no plate rests on specs/Header
+unfoldable pub firstBytes : List ℕ
+firstBytes = 0x4C ∷ 0x50 ∷ 0x54 ∷ 0 ∷ 1 ∷ 0 ∷ []
+
 -- an image of one page a band, from the key count, the bands' root counts and the pages' node bytes up to the last that is not zero
 unfoldable pub onePageHeader : ℕ → List ℕ → List ℕ
-onePageHeader n roots = 0x4C ∷ 0x50 ∷ 0x54 ∷ 0 ∷ 1 ∷ 0 ∷ 0 ∷ n ∷ flatMap (λ r. 0 ∷ 1 ∷ 0 ∷ r ∷ []) roots ++ replicate 24 0
+onePageHeader n roots = firstBytes ++ 0 ∷ n ∷ flatMap (λ r. 0 ∷ 1 ∷ 0 ∷ r ∷ []) roots ++ replicate 24 0
 
 unfoldable pub firstPage : List ℕ → List ℕ
 firstPage nodes = 0 ∷ 0 ∷ 0 ∷ 0 ∷ nodes ++ replicate (60 - length nodes) 0
@@ -39,7 +43,7 @@ pub record Plates : Type 0 where
   pub plate-4 : keyOf 3 1 ≡ 11
   pub plate-5 : keyOf 65535 0 ≡ 2863311530
   pub plate-6 : keyOf 65535 65535 ≡ 4294967295
-  pub plate-7 : Image-is [] (0x4C ∷ 0x50 ∷ 0x54 ∷ 0 ∷ 1 ∷ replicate 59 0)
+  pub plate-7 : Image-is [] (firstBytes ++ replicate 58 0)
   pub plate-8 : Image-is (0 ∷ []) (onePageImage 1 (replicate 8 1) (replicate 8 (0xAA ∷ [])))
   pub plate-8-length : length (imageOf (0 ∷ [])) ≡ 576
   pub plate-9 : Image-is (0 ∷ 1 ∷ []) (onePageImage 2 (replicate 8 1) (replicate 7 (0xAA ∷ []) ++ (0xAB ∷ []) ∷ []))

@@ -9,6 +9,7 @@ use lib.Dec.{leb, ltb, eqb}
 use lib.ListN.{length, getD, take, drop}
 use Rattle.format.specs.Seq.{numbersFrom, upTo, total, every}
 use Rattle.format.specs.Page.{firstSubtries, nodeCount, numberAt}
+use Rattle.format.specs.Header.{mark}
 use Rattle.format.specs.Image.{bands, keyCount, pageCount, rootCount, pageT, pageB, pagePairs, pageRoots, pageLevels, pageNodes, outLinkCount}
 
 -- ---- questions and outcomes
@@ -51,9 +52,9 @@ isZero n = eqb n 0
 unfoldable pub isPositive : ℕ → Bool
 isPositive n = leb 1 n
 
--- 2: bytes 0 to 2 are 4C 50 54
+-- 2: the first three bytes are the mark
 unfoldable pub markRight : List ℕ → Bool
-markRight img = eqb (getD img 0 0) 0x4C && eqb (getD img 1 0) 0x50 && eqb (getD img 2 0) 0x54
+markRight img = every (λ i. eqb (getD img i 0) (getD mark i 0)) (upTo 3)
 
 -- 7: with key count 0 all band counts are 0; else band 1 has one page and one root, and every other band count is at least 1
 unfoldable pub countsFit : List ℕ → Bool

@@ -4,9 +4,10 @@ use Prim.Native.Nat.{ℕ, zero, suc, _+_}
 use mathlib.Core.Bool.{Bool, true, false, _&&_}
 use mathlib.Core.List.{List, [], _∷_, _++_, flatMap, flatten}
 use lib.Dec.{leb, ltb}
-use lib.ListN.{length, getD, take, drop, replicate}
+use lib.ListN.{length, getD, take, drop}
 use Rattle.format.specs.Trie.{levelsOf, onBits}
 use Rattle.format.specs.Page.{firstSubtries, laterSubtries, nodeCount, nodeBytes, twoBytes}
+use Rattle.format.specs.Header.{header}
 use Rattle.format.specs.Key.{woven}
 use Rattle.format.specs.Question.{Question, Outcome, settle, filled}
 
@@ -61,15 +62,11 @@ bandBytes t b (page ∷ pages) = pageBytes t b page ++ bandBytes (t + rootsIn pa
 
 -- a band's page count and root count
 unfoldable pub bandCounts : List (List ℕ) → List ℕ
-bandCounts band = twoBytes (length (pagesOf band)) ++ twoBytes (rootsIn band)
-
--- the 64 bytes of the header: n keys
-unfoldable pub header : ℕ → List (List (List ℕ)) → List ℕ
-header n bands = 0x4C ∷ 0x50 ∷ 0x54 ∷ 0 ∷ 1 ∷ 0 ∷ twoBytes n ++ flatMap bandCounts bands ++ replicate 24 0
+bandCounts band = length (pagesOf band) ∷ rootsIn band ∷ []
 
 -- the image of a list of keys
 unfoldable pub imageOf : List ℕ → List ℕ
-imageOf keys = header (length keys) (bandsOf keys) ++ flatMap (λ band. bandBytes 0 0 (pagesOf band)) (bandsOf keys)
+imageOf keys = header (length keys) (flatMap bandCounts (bandsOf keys)) ++ flatMap (λ band. bandBytes 0 0 (pagesOf band)) (bandsOf keys)
 
 -- ---- the job
 

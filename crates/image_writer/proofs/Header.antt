@@ -8,7 +8,8 @@ use native.Mathlib.Omega.{arith}
 use lib.ListN.{length, getD, take, drop, set, replicate, length-append, length-drop, take-append-drop}
 use lib.Seq.{take-at, take-all, take-suc, drop-at, drop-drop, length-take-le}
 use Rattle.format.specs.Page.{twoBytes}
-use Rattle.image_writer.specs.Image.{headerOf}
+use Rattle.format.specs.Header.{header, headerEnd, headerStart, mark}
+use Rattle.format.proofs.HeaderBytes.{length-start, length-two}
 
 -- what is done, and then xs in place of the next k elements of l
 extended : (done l xs : List ℕ) (n k : ℕ) → length done ≡ n → take n (done ++ drop n l) ++ (xs ++ drop (n + k) (done ++ drop n l)) ≡ (done ++ xs) ++ drop (n + k) l
@@ -16,25 +17,25 @@ extended done l xs n k e =
     ap₂ (λ (a b : List ℕ). a ++ (xs ++ b)) (take-at done (drop n l) n e) (sym (drop-drop k n (done ++ drop n l)) ∙ ap (drop k) (drop-at done (drop n l) n e) ∙ drop-drop k n l)
     ∙ sym (append-assoc done xs (drop (n + k) l))
 
-pub length-two : (l : List ℕ) → length (flatMap twoBytes l) ≡ 2 * length l
-unfolding flatMap twoBytes
-length-two [] = refl
-length-two (x ∷ l) = omega (arith, length-two l)
-
 flat-more : (l : List ℕ) (x : ℕ) → flatMap twoBytes (l ++ x ∷ []) ≡ flatMap twoBytes l ++ twoBytes x
 unfolding flatMap twoBytes
 flat-more [] x = refl
 flat-more (y ∷ l) x = ap (twoBytes y ++_) (flat-more l x)
 
--- the mark, the version and a zero
-pub six-stored : (l : List ℕ) → 64 ≤ length l → set (set (set (set (set (set l 0 0x4C) 1 0x50) 2 0x54) 3 0) 4 1) 5 0 ≡ 0x4C ∷ 0x50 ∷ 0x54 ∷ 0 ∷ 1 ∷ 0 ∷ drop 6 l
-six-stored [] h = absurd (omega arith)
-six-stored (a ∷ []) h = absurd (omega arith)
-six-stored (a ∷ b ∷ []) h = absurd (omega arith)
-six-stored (a ∷ b ∷ c ∷ []) h = absurd (omega arith)
-six-stored (a ∷ b ∷ c ∷ d ∷ []) h = absurd (omega arith)
-six-stored (a ∷ b ∷ c ∷ d ∷ e ∷ []) h = absurd (omega arith)
-six-stored (a ∷ b ∷ c ∷ d ∷ e ∷ f ∷ l) h = refl
+-- the first six bytes stored one after the other
+pub start-stored : (l : List ℕ) → 64 ≤ length l → set (set (set (set (set (set l 0 0x4C) 1 0x50) 2 0x54) 3 0) 4 1) 5 0 ≡ headerStart ++ drop 6 l
+unfolding headerStart mark twoBytes
+start-stored [] h = absurd (omega arith)
+start-stored (a ∷ []) h = absurd (omega arith)
+start-stored (a ∷ b ∷ []) h = absurd (omega arith)
+start-stored (a ∷ b ∷ c ∷ []) h = absurd (omega arith)
+start-stored (a ∷ b ∷ c ∷ d ∷ []) h = absurd (omega arith)
+start-stored (a ∷ b ∷ c ∷ d ∷ e ∷ []) h = absurd (omega arith)
+start-stored (a ∷ b ∷ c ∷ d ∷ e ∷ f ∷ l) h = refl
+
+two : (n : ℕ) → length (twoBytes n) ≡ 2
+unfolding twoBytes
+two n = refl
 
 -- the first i counts are in
 pub record Headed (out₀ counts out : List ℕ) (i : ℕ) : Type 0 where
@@ -72,20 +73,21 @@ module _ (out₀ counts out : List ℕ) (i : ℕ) (s : Headed out₀ counts out 
         same = omega (arith, ap length d, length-append (take 8 out₀ ++ flatMap twoBytes (take (i + 1) counts)) (drop (8 + 2 * (i + 1)) out₀), length-append (take 8 out₀) (flatMap twoBytes (take (i + 1) counts)), length-take-le 8 out₀ (omega (arith, s .room)), length-two (take (i + 1) counts), length-take-le (i + 1) counts (omega (arith, s .sixteen)), length-drop (8 + 2 * (i + 1)) out₀, s .room);
       }
 
-  pub headed-end : (entry out′ : List ℕ) (n : ℕ) → 64 ≤ length entry
-      → out₀ ≡ take 6 (set (set (set (set (set (set entry 0 0x4C) 1 0x50) 2 0x54) 3 0) 4 1) 5 0) ++ (twoBytes n ++ drop 8 (set (set (set (set (set (set entry 0 0x4C) 1 0x50) 2 0x54) 3 0) 4 1) 5 0))
-      → 16 ≤ i → out′ ≡ take 40 out ++ (replicate 24 0 ++ drop 64 out) → out′ ≡ headerOf n counts ++ drop 64 entry
-  unfolding headerOf twoBytes
-  headed-end entry out′ n room begun h e =
-      let t : i ≡ 16 = omega (arith, s .within) in
-      let k : 8 + 2 * i ≡ 40 = omega arith in
+  pub headed-end : (entry begun out′ : List ℕ) (n : ℕ) → begun ≡ headerStart ++ drop 6 entry → out₀ ≡ take 6 begun ++ (twoBytes n ++ drop 8 begun)
+      → 16 ≤ i → out′ ≡ take 40 out ++ (replicate 24 0 ++ drop 64 out) → out′ ≡ header n counts ++ drop 64 entry
+  unfolding header headerEnd
+  headed-end entry begun out′ n start number h e =
+      let k : 8 + 2 * i ≡ 40 = omega (arith, s .within) in
       let c : take i counts ≡ counts = take-all i counts (omega (arith, s .sixteen)) in
-      let o : out₀ ≡ 0x4C ∷ 0x50 ∷ 0x54 ∷ 0 ∷ 1 ∷ 0 ∷ (twoBytes n ++ drop 8 entry) =
-      begun ∙ ap (λ (l : List ℕ). take 6 l ++ (twoBytes n ++ drop 8 l)) (six-stored entry room) ∙ ap (λ (l : List ℕ). 0x4C ∷ 0x50 ∷ 0x54 ∷ 0 ∷ 1 ∷ 0 ∷ (twoBytes n ++ l)) (drop-drop 2 6 entry) in
-      let d : out ≡ (take 8 out₀ ++ flatMap twoBytes counts) ++ drop 40 out₀ = s .done ∙ ap₂ (λ (a : List ℕ) (j : ℕ). (take 8 out₀ ++ flatMap twoBytes a) ++ drop j out₀) c k in
-      let z : length (take 8 out₀ ++ flatMap twoBytes counts) ≡ 40 = ap (λ (a : List ℕ). length (take 8 out₀ ++ flatMap twoBytes a)) (sym c) ∙ done-length ∙ k in
+      let eight : List ℕ = headerStart ++ twoBytes n in
+      let long : length eight ≡ 8 = length-append headerStart (twoBytes n) ∙ omega (arith, length-start, two n) in
+      let o : out₀ ≡ eight ++ drop 8 entry = number ∙ ap (λ (l : List ℕ). take 6 l ++ (twoBytes n ++ drop 8 l)) start ∙ extended headerStart entry (twoBytes n) 6 2 length-start in
+      let first : take 8 out₀ ≡ eight = ap (take 8) o ∙ take-at eight (drop 8 entry) 8 long in
+      let rest : drop 64 out₀ ≡ drop 64 entry = sym (drop-drop 56 8 out₀) ∙ ap (drop 56) (ap (drop 8) o ∙ drop-at eight (drop 8 entry) 8 long) ∙ drop-drop 56 8 entry in
+      let done : List ℕ = take 8 out₀ ++ flatMap twoBytes counts in
+      let d : out ≡ done ++ drop 40 out₀ = s .done ∙ ap₂ (λ (a : List ℕ) (j : ℕ). (take 8 out₀ ++ flatMap twoBytes a) ++ drop j out₀) c k in
+      let z : length done ≡ 40 = ap (λ (a : List ℕ). length (take 8 out₀ ++ flatMap twoBytes a)) (sym c) ∙ done-length ∙ k in
       e
-      ∙ ap (λ (l : List ℕ). take 40 l ++ (replicate 24 0 ++ drop 64 l)) d
-      ∙ extended (take 8 out₀ ++ flatMap twoBytes counts) out₀ (replicate 24 0) 40 24 z
-      ∙ ap (λ (l : List ℕ). ((take 8 l ++ flatMap twoBytes counts) ++ replicate 24 0) ++ drop 64 l) o
-      ∙ ap (λ (l : List ℕ). ((0x4C ∷ 0x50 ∷ 0x54 ∷ 0 ∷ 1 ∷ 0 ∷ twoBytes n) ++ flatMap twoBytes counts ++ replicate 24 0) ++ l) (drop-drop 56 8 entry)
+      ∙ ap (λ (l : List ℕ). take 40 l ++ (headerEnd ++ drop 64 l)) d
+      ∙ extended done out₀ headerEnd 40 24 z
+      ∙ ap₂ (λ (a b : List ℕ). ((a ++ flatMap twoBytes counts) ++ headerEnd) ++ b) first rest

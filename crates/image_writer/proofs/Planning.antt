@@ -10,7 +10,7 @@ use lib.Seq.{take-all, take-append-le, drop-append-le, drop-drop, length-take-le
 use Rattle.format.specs.Seq.{total, numbersFrom}
 use Rattle.format.specs.Trie.{parents, levelsOver}
 use Rattle.format.specs.Image.{bands}
-use Rattle.format.specs.Writer.{bandsOf, pagesOf, rootsIn}
+use Rattle.format.specs.Writer.{bandCounts, bandsOf, pagesOf, rootsIn}
 use Rattle.format.proofs.Trie.{Fits}
 use Rattle.format.proofs.Members.{of-ascending, ascending-of}
 use Rattle.format.proofs.Bounds.{page-bound, pages-summed}
@@ -42,9 +42,6 @@ roots-prefixes (x ∷ q) p =
 
 -- ---- the first pass
 
-abbrev pub countsIn : List (List ℕ) → List ℕ
-countsIn band = length (pagesOf band) ∷ rootsIn band ∷ []
-
 abbrev pub pageCount : List (List ℕ) → ℕ
 pageCount band = length (pagesOf band)
 
@@ -73,7 +70,7 @@ pub record Planning (keys₀ keys counts : List ℕ) (pages n b : ℕ) : Type 0 
   pub same : length keys ≡ length keys₀
   pub done : List (List (List ℕ))
   pub bands-are : bandsOf keys₀ ≡ bandsUp b (take n keys) ++ done
-  pub counts-are : counts ≡ replicate (2 * b) 0 ++ flatMap countsIn done
+  pub counts-are : counts ≡ replicate (2 * b) 0 ++ flatMap bandCounts done
   pub pages-are : pages ≡ total (map pageCount done)
   pub pages-few : pagesIn keys₀ ≤ 384
   pub bands-few : b ≤ 8
@@ -216,7 +213,7 @@ module _ (keys₀ keys counts : List ℕ) (pages n b : ℕ) (s : Planning keys�
       roots-is′ = c .roots-are ∙ ap (λ (k : ℕ). rootsIn (bandAbove (take k keys))) z
 
       room : 2 * b ≤ length counts
-      room = omega (arith, ap length (s .counts-are), length-append (replicate (2 * b) 0) (flatMap countsIn (s .done)), length-replicate {A = ℕ} (2 * b) 0)
+      room = omega (arith, ap length (s .counts-are), length-append (replicate (2 * b) 0) (flatMap bandCounts (s .done)), length-replicate {A = ℕ} (2 * b) 0)
 
       go : (b′ : ℕ) → b ≡ suc b′ → Planning keys₀ (after ++ drop (n - 0) keys) (set (set counts (2 * b′) (r .pages)) (2 * b′ + 1) (r .roots)) (pages + r .pages) (r .roots) b′
       go b′ e =
@@ -226,9 +223,9 @@ module _ (keys₀ keys counts : List ℕ) (pages n b : ℕ) (s : Planning keys�
             same = back-length keys n (r .roots) after (s .within) same (omega (arith, c .roots-few, q-length)) (c .lifted) ∙ s .same;
             done = bandAbove (take n keys) ∷ s .done;
             bands-are = s .bands-are ∙ ap (λ (k : ℕ). bandsUp k (take n keys) ++ s .done) e ∙ append-assoc (bandsUp b′ (rootsAbove (take n keys))) (bandAbove (take n keys) ∷ []) (s .done) ∙ ap (λ (l : List ℕ). bandsUp b′ l ++ bandAbove (take n keys) ∷ s .done) (sym first-roots);
-            counts-are = ap (λ (l : List ℕ). set (set l (2 * b′) (r .pages)) (2 * b′ + 1) (r .roots)) (s .counts-are ∙ ap (λ (k : ℕ). replicate (2 * k) 0 ++ flatMap countsIn (s .done)) e)
-                ∙ counts-stored b′ (r .pages) (r .roots) (flatMap countsIn (s .done))
-                ∙ ap₂ (λ (i j : ℕ). replicate (2 * b′) 0 ++ i ∷ j ∷ flatMap countsIn (s .done)) pages-is roots-is′
+            counts-are = ap (λ (l : List ℕ). set (set l (2 * b′) (r .pages)) (2 * b′ + 1) (r .roots)) (s .counts-are ∙ ap (λ (k : ℕ). replicate (2 * k) 0 ++ flatMap bandCounts (s .done)) e)
+                ∙ counts-stored b′ (r .pages) (r .roots) (flatMap bandCounts (s .done))
+                ∙ ap₂ (λ (i j : ℕ). replicate (2 * b′) 0 ++ i ∷ j ∷ flatMap bandCounts (s .done)) pages-is roots-is′
                 ∙ more b′;
             pages-are = sum;
             pages-few = s .pages-few;
@@ -236,8 +233,8 @@ module _ (keys₀ keys counts : List ℕ) (pages n b : ℕ) (s : Planning keys�
             kept = kept-next keys₀ keys counts n b′ (r .pages) (r .roots) after (rw e at (s .kept)) (rw e at room) (omega (arith, s .bands-few)) (s .within) (s .same) (omega (arith, c .roots-few, q-length)) (same ∙ q-length) (c .kept);
           }
         where
-          more : (b′ : ℕ) → replicate (2 * b′) 0 ++ length (pagesOf (bandAbove (take n keys))) ∷ rootsIn (bandAbove (take n keys)) ∷ flatMap countsIn (s .done) ≡ replicate (2 * b′) 0 ++ flatMap countsIn (bandAbove (take n keys) ∷ s .done)
-          more b′ = unfold flatMap in refl
+          more : (b′ : ℕ) → replicate (2 * b′) 0 ++ length (pagesOf (bandAbove (take n keys))) ∷ rootsIn (bandAbove (take n keys)) ∷ flatMap bandCounts (s .done) ≡ replicate (2 * b′) 0 ++ flatMap bandCounts (bandAbove (take n keys) ∷ s .done)
+          more b′ = unfold flatMap bandCounts in refl
 
           sum : pages + r .pages ≡ total (map pageCount (bandAbove (take n keys) ∷ s .done))
           sum = unfold total in omega (arith, s .pages-are, pages-is)
@@ -250,7 +247,7 @@ planning-end keys₀ keys counts pages n b s none =
     let sum : pages ≡ total (map pageCount (bandsOf keys₀)) = s .pages-are ∙ ap (λ (l : List (List (List ℕ))). total (map pageCount l)) (sym d) in
     record {
       planned = record {
-        counts-are = s .counts-are ∙ ap (λ (k : ℕ). replicate (2 * k) 0 ++ flatMap countsIn (s .done)) z ∙ ap (flatMap countsIn) (sym d);
+        counts-are = s .counts-are ∙ ap (λ (k : ℕ). replicate (2 * k) 0 ++ flatMap bandCounts (s .done)) z ∙ ap (flatMap bandCounts) (sym d);
         pages-are = sum;
         few = omega (arith, sum, s .pages-few);
       };

@@ -7,12 +7,13 @@ use native.Mathlib.Omega.{arith}
 use lib.ListN.{length, getD, take, drop, length-append, length-drop, take-append-drop}
 use lib.Seq.{take-all, take-append-le, take-take, drop-at, length-take-le, getD-at}
 use Rattle.format.specs.Seq.{total}
-use Rattle.format.specs.Writer.{bandsOf, pagesOf, rootsIn}
+use Rattle.format.specs.Writer.{bandCounts, bandsOf, pagesOf, rootsIn}
+use Rattle.format.proofs.HeaderBytes.{length-counts}
 use Rattle.format.proofs.WrittenPages.{length-bandBytes}
 use Rattle.image_writer.specs.declared.Plan.{Plan}
 use Rattle.packing.specs.Run.{Prefixes, bandAbove, rootsAbove}
 use Rattle.image_writer.specs.Image.{countsOf, pagesIn, BandRoom, BandDone, ImageRoom, bytesOfBand, bytesOfBands, pagesFrom}
-use Rattle.image_writer.proofs.Planning.{bandsUp, bands-up, roots-prefixes, countsIn, pageCount, pages-append, first-ones, back-length}
+use Rattle.image_writer.proofs.Planning.{bandsUp, bands-up, roots-prefixes, pageCount, pages-append, first-ones, back-length}
 
 -- the pages before `first` are left: those of the bands above the first n of keys, b of them; `last` is the number after the last page
 pub record Writing (keys₀ out₀ counts : List ℕ) (last : ℕ) (keys out : List ℕ) (first n b : ℕ) : Type 0 where
@@ -57,11 +58,6 @@ unfolding flatMap
 flat-append f [] b = refl
 flat-append f (x ∷ a) b = ap (f x ++_) (flat-append f a b) ∙ sym (append-assoc (f x) (flatMap f a) (flatMap f b))
 
-pub length-counts : (l : List (List (List ℕ))) → length (flatMap countsIn l) ≡ 2 * length l
-unfolding flatMap
-length-counts [] = refl
-length-counts (x ∷ l) = omega (arith, length-counts l)
-
 pub length-band : (band : List (List ℕ)) → length (bytesOfBand band) ≡ 64 * pageCount band
 unfolding bytesOfBand
 length-band band = length-bandBytes 0 0 (pagesOf band)
@@ -75,12 +71,12 @@ module _ (keys₀ out₀ counts : List ℕ) (last : ℕ) (keys out : List ℕ) (
 
   -- the count that the plan has of the band
   pub count-is : getD counts (2 * (b - 1)) 0 ≡ pageCount (bandAbove (take n keys))
-  unfolding countsOf flatMap
+  unfolding countsOf flatMap bandCounts
   count-is =
       let bs = bandsUp (b - 1) (rootsAbove (take n keys)) in
       let all : bandsOf keys₀ ≡ bs ++ bandAbove (take n keys) ∷ s .done = s .bands-are ∙ ap (_++ s .done) up ∙ append-assoc bs (bandAbove (take n keys) ∷ []) (s .done) in
-      ap (λ (l : List ℕ). getD l (2 * (b - 1)) 0) (s .counts-are ∙ ap (flatMap countsIn) all ∙ flat-append countsIn bs (bandAbove (take n keys) ∷ s .done))
-      ∙ getD-at (flatMap countsIn bs) (pageCount (bandAbove (take n keys))) (rootsIn (bandAbove (take n keys)) ∷ flatMap countsIn (s .done)) 0 (2 * (b - 1)) (length-counts bs ∙ ap (2 *_) (length-up (b - 1) (rootsAbove (take n keys))))
+      ap (λ (l : List ℕ). getD l (2 * (b - 1)) 0) (s .counts-are ∙ ap (flatMap bandCounts) all ∙ flat-append bandCounts bs (bandAbove (take n keys) ∷ s .done))
+      ∙ getD-at (flatMap bandCounts bs) (pageCount (bandAbove (take n keys))) (rootsIn (bandAbove (take n keys)) ∷ flatMap bandCounts (s .done)) 0 (2 * (b - 1)) (length-counts bs ∙ ap (2 *_) (length-up (b - 1) (rootsAbove (take n keys))))
 
   pages-sum : first ≡ 1 + total (map pageCount (bandsUp (b - 1) (rootsAbove (take n keys)))) + pageCount (bandAbove (take n keys))
   unfolding total

@@ -1,18 +1,17 @@
 -- The image's parts as the writer fills them in.
 -- Assumes nothing.
 use mathlib.Core.Path.{_≡_}
-use mathlib.Core.List.{List, [], _∷_, _++_, map, flatMap}
+use mathlib.Core.List.{List, _++_, map, flatMap}
 use Prim.Native.Nat.{ℕ, _+_, _*_, _≤_}
-use lib.ListN.{length, take, drop, replicate}
+use lib.ListN.{length, take, drop}
 use Rattle.format.specs.Seq.{total}
-use Rattle.format.specs.Page.{twoBytes}
-use Rattle.format.specs.Writer.{bandsOf, bandBytes, pagesOf, rootsIn}
+use Rattle.format.specs.Writer.{bandsOf, bandBytes, bandCounts, pagesOf}
 use Rattle.packing.specs.Run.{Prefixes, bandAbove, rootsAbove}
 use Rattle.image_writer.specs.declared.Plan.{Plan}
 
 -- the page count and the root count of each band, and the pages of all
 unfoldable pub countsOf : List ℕ → List ℕ
-countsOf keys = flatMap {B = ℕ} (λ band. length (pagesOf band) ∷ rootsIn band ∷ []) (bandsOf keys)
+countsOf keys = flatMap bandCounts (bandsOf keys)
 
 unfoldable pub pagesIn : List ℕ → ℕ
 pagesIn keys = total (map (λ band. length (pagesOf band)) (bandsOf keys))
@@ -21,10 +20,6 @@ pub record Planned (keys : List ℕ) (plan : Plan) : Type 0 where
   pub counts-are : plan .counts ≡ countsOf keys
   pub pages-are : plan .pages ≡ pagesIn keys
   pub few : plan .pages ≤ 384
-
--- the header of n keys, where counts are the page count and the root count of each band
-unfoldable pub headerOf : ℕ → List ℕ → List ℕ
-headerOf n counts = 0x4C ∷ 0x50 ∷ 0x54 ∷ 0 ∷ 1 ∷ 0 ∷ (twoBytes n ++ (flatMap twoBytes counts ++ replicate 24 0))
 
 -- a buffer with the bytes of pages in place of those from page `first` on
 unfoldable pub pagesFrom : List ℕ → ℕ → List ℕ → List ℕ

@@ -7,12 +7,13 @@ use mathlib.Core.List.{List, [], _∷_, _++_, append-assoc, append-nil, flatMap,
 use Prim.Native.Nat.{ℕ, _+_, _*_, _-_, _≤_, _<_}
 use native.Mathlib.Omega.{arith}
 use borrow.Author.Tests.{le-leb, lt-leb}
-use lib.ListN.{length, take, drop, replicate, length-append, take-append-drop}
+use lib.ListN.{length, take, drop, length-append, take-append-drop}
 use lib.Seq.{take-at, drop-at, drop-drop, drop-length, length-take-le}
 use Rattle.format.specs.Seq.{total}
-use Rattle.format.specs.Page.{twoBytes}
+use Rattle.format.specs.Header.{header}
 use Rattle.format.specs.Question.{Outcome, refused, returns, outcome, settle, firstNo, filled}
-use Rattle.format.specs.Writer.{ascending, bandsOf, bandCounts, bandBytes, pagesOf, rootsIn, header, imageOf, listQuestions, roomQuestion, writeKeys, bufferAfterWriteKeys}
+use Rattle.format.specs.Writer.{ascending, bandsOf, bandCounts, imageOf, listQuestions, roomQuestion, writeKeys, bufferAfterWriteKeys}
+use Rattle.format.proofs.HeaderBytes.{length-counts, length-header}
 use Rattle.format.proofs.Questions.{after-yes}
 use Rattle.format.proofs.Jobs.{list-writable}
 use Rattle.format.proofs.Exact.{write-is}
@@ -20,30 +21,23 @@ use Rattle.writer.specs.declared.Written.the-variants.{Length, Refused}
 use Rattle.image_writer.specs.declared.Plan.{Plan}
 use Rattle.writer.specs.Writer.{WrittenKeys}
 use Rattle.packing.specs.Run.{Prefixes}
-use Rattle.image_writer.specs.Image.{countsOf, pagesIn, headerOf, pagesFrom, bytesOfBand, bytesOfBands, Planned, ImageRoom}
+use Rattle.image_writer.specs.Image.{countsOf, pagesIn, pagesFrom, bytesOfBand, bytesOfBands, Planned, ImageRoom}
 use Rattle.image_writer.specs.Planning.{usedUp, FirstPass, KeysPlanned, unordered, passed}
-use Rattle.image_writer.proofs.Header.{length-two}
-use Rattle.image_writer.proofs.Planning.{countsIn, pageCount, bands-up}
-use Rattle.image_writer.proofs.Writing.{length-up, length-counts, length-band}
+use Rattle.image_writer.proofs.Planning.{pageCount, bands-up}
+use Rattle.image_writer.proofs.Writing.{length-up, length-band}
 
 -- ---- the image
 
--- a header of the plan's counts is the format's
-flat-counts : (l : List (List (List ℕ))) → flatMap twoBytes (flatMap countsIn l) ≡ flatMap bandCounts l
-unfolding flatMap bandCounts twoBytes
-flat-counts [] = refl
-flat-counts (band ∷ l) = ap (λ (t : List ℕ). (twoBytes (length (pagesOf band)) ++ twoBytes (rootsIn band)) ++ t) (flat-counts l)
+-- a header of the plan's counts and the pages are the image
+pub image-is : (keys : List ℕ) → header (length keys) (countsOf keys) ++ bytesOfBands keys ≡ imageOf keys
+unfolding imageOf countsOf bytesOfBands bytesOfBand flatMap
+image-is keys = refl
 
-pub image-is : (keys : List ℕ) → headerOf (length keys) (countsOf keys) ++ bytesOfBands keys ≡ imageOf keys
-unfolding imageOf header headerOf countsOf bytesOfBands bytesOfBand twoBytes flatMap
-image-is keys = ap (λ (t : List ℕ). (0x4C ∷ 0x50 ∷ 0x54 ∷ 0 ∷ 1 ∷ 0 ∷ (twoBytes (length keys) ++ (t ++ replicate 24 0))) ++ flatMap (λ band. bandBytes 0 0 (pagesOf band)) (bandsOf keys)) (flat-counts (bandsOf keys))
-
-header-length : (keys : List ℕ) → length (headerOf (length keys) (countsOf keys)) ≡ 64
-unfolding headerOf countsOf twoBytes
+header-length : (keys : List ℕ) → length (header (length keys) (countsOf keys)) ≡ 64
+unfolding countsOf
 header-length keys =
-    let e : length (bandsOf keys) ≡ 8 = ap length (bands-up keys) ∙ length-up 8 keys in
-    let n = length-append (flatMap twoBytes (flatMap countsIn (bandsOf keys))) (replicate 24 0) in
-    omega (arith, n, length-two (flatMap countsIn (bandsOf keys)), length-counts (bandsOf keys))
+    let eight : length (bandsOf keys) ≡ 8 = ap length (bands-up keys) ∙ length-up 8 keys in
+    length-header (length keys) (flatMap bandCounts (bandsOf keys)) (omega (arith, length-counts (bandsOf keys)))
 
 pages-length : (keys : List ℕ) → length (bytesOfBands keys) ≡ 64 * pagesIn keys
 unfolding bytesOfBands pagesIn
@@ -57,13 +51,13 @@ pages-length keys = go (bandsOf keys)
         sum band l h = unfold flatMap total in omega (arith, h, length-append (bytesOfBand band) (flatMap bytesOfBand l), length-band band)
 
 pub image-length : (keys : List ℕ) → length (imageOf keys) ≡ 64 + 64 * pagesIn keys
-image-length keys = ap length (sym (image-is keys)) ∙ length-append (headerOf (length keys) (countsOf keys)) (bytesOfBands keys) ∙ ap₂ _+_ (header-length keys) (pages-length keys)
+image-length keys = ap length (sym (image-is keys)) ∙ length-append (header (length keys) (countsOf keys)) (bytesOfBands keys) ∙ ap₂ _+_ (header-length keys) (pages-length keys)
 
 -- header and pages in the buffer
-pub image-filled : (keys out out₁ out₂ : List ℕ) → out₁ ≡ headerOf (length keys) (countsOf keys) ++ drop 64 out → out₂ ≡ pagesFrom out₁ 1 (bytesOfBands keys) → out₂ ≡ imageOf keys ++ drop (length (imageOf keys)) out
+pub image-filled : (keys out out₁ out₂ : List ℕ) → out₁ ≡ header (length keys) (countsOf keys) ++ drop 64 out → out₂ ≡ pagesFrom out₁ 1 (bytesOfBands keys) → out₂ ≡ imageOf keys ++ drop (length (imageOf keys)) out
 unfolding pagesFrom
 image-filled keys out out₁ out₂ e₁ e₂ =
-    let h = headerOf (length keys) (countsOf keys) in
+    let h = header (length keys) (countsOf keys) in
     let n : 64 + length (bytesOfBands keys) ≡ length (imageOf keys) = omega (arith, image-length keys, pages-length keys) in
     e₂
     ∙ ap (λ (l : List ℕ). take 64 l ++ (bytesOfBands keys ++ drop (64 + length (bytesOfBands keys)) l)) e₁
@@ -103,7 +97,7 @@ module _ (keys buffer : List ℕ) (listed : Prefixes keys) where
       no : firstNo (roomQuestion keys buffer ∷ []) ≡ some 17
       no = unfold roomQuestion firstNo in rw (lt-leb (length (imageOf keys)) (length buffer) (omega (arith, image-length keys))) refl
 
-  written : (out₁ out₂ : List ℕ) → 64 + 64 * pagesIn keys ≤ length buffer → out₁ ≡ headerOf (length keys) (countsOf keys) ++ drop 64 buffer → out₂ ≡ pagesFrom out₁ 1 (bytesOfBands keys)
+  written : (out₁ out₂ : List ℕ) → 64 + 64 * pagesIn keys ≤ length buffer → out₁ ≡ header (length keys) (countsOf keys) ++ drop 64 buffer → out₂ ≡ pagesFrom out₁ 1 (bytesOfBands keys)
       → WrittenKeys keys buffer (Length (64 + 64 * pagesIn keys)) out₂
   unfolding bufferAfterWriteKeys
   written out₁ out₂ h e₁ e₂ =
@@ -123,9 +117,9 @@ module _ (keys buffer : List ℕ) (plan : Plan) (g : Prefixes keys × Planned ke
     pub plan-room : length out₁ ≡ length buffer → ImageRoom keys out₁ plan
     plan-room same = record { listed = g .0; planned = g .1; room = omega arith }
 
-    pub plan-written : (out₂ : List ℕ) → out₁ ≡ headerOf (length keys) (plan .counts) ++ drop 64 buffer → out₂ ≡ pagesFrom out₁ 1 (bytesOfBands keys) → WrittenKeys keys buffer (Length (64 + 64 * plan .pages)) out₂
+    pub plan-written : (out₂ : List ℕ) → out₁ ≡ header (length keys) (plan .counts) ++ drop 64 buffer → out₂ ≡ pagesFrom out₁ 1 (bytesOfBands keys) → WrittenKeys keys buffer (Length (64 + 64 * plan .pages)) out₂
     plan-written out₂ e₁ e₂ =
-        rw (g .1 .pages-are) (written keys buffer (g .0) out₁ out₂ (rw (g .1 .pages-are) at room) (e₁ ∙ ap (λ (c : List ℕ). headerOf (length keys) c ++ drop 64 buffer) (g .1 .counts-are)) e₂)
+        rw (g .1 .pages-are) (written keys buffer (g .0) out₁ out₂ (rw (g .1 .pages-are) at room) (e₁ ∙ ap (λ (c : List ℕ). header (length keys) c ++ drop 64 buffer) (g .1 .counts-are)) e₂)
 
 -- the question that got a no
 pub plan-refused : (keys after buffer : List ℕ) (plan : Plan) → length keys ≤ 4096 → KeysPlanned keys after plan → 0 < plan .refusal → WrittenKeys keys buffer (Refused (plan .refusal)) buffer

@@ -3,7 +3,6 @@ use Prim.Native.Nat.{_-_}
 use native.Mathlib.Omega.{arith}
 use borrow.Author.Needs.{needs}
 use denote.Ref.{now}
-use lib.ListN.{length-set}
 use Rattle.image_writer.proofs.Header.{Headed, headed-start, headed-next, headed-end}
 use Rattle.image_writer.proofs.fill_header.Statement.{statement}
 use Rattle.image_writer.proofs.fill_header.Tie as tie
@@ -15,16 +14,25 @@ abbrev μ-loop : tie.MeasureT-loop
 μ-loop out₀ n counts i₀ out i = 16 - i
 
 loop-holds : tie.Need-loop-holds Inv-loop μ-loop
-loop-holds c = headed-start _ _ (search needs) (omega (arith, simp length-set at (c .before .before .put-number .kept .0)))
+loop-holds c =
+    let s = c .before .before .before .before .before .before in
+    headed-start _ _ (search needs) (omega (arith, c .before .before .put-number .kept .0, s .fill-start .kept .0, s .before .before .before .pre))
 
 loop-again : tie.Need-loop-again Inv-loop μ-loop
 loop-again c = headed-next _ _ _ _ (c .before .before .before .before .before .loop .inv) _ (c .before .before .before .before .loop-test .taken) (c .before .before .put-number2 .ensures)
 
 same-length : tie.Need-same-length Inv-loop μ-loop
-same-length c = omega (arith, c .before .before .clear .kept .0, c .before .before .before .before .before .loop .inv .same, simp length-set at (c .before .before .before .before .before .before .before .before .put-number .kept .0))
+same-length c =
+    let l = c .before .before .before .before .before in
+    let n = l .before .before .before in
+    omega (arith, c .before .before .clear .kept .0, l .loop .inv .same, n .put-number .kept .0, n .before .before .before .before .fill-start .kept .0)
 
 returns : tie.Need-returns Inv-loop μ-loop
-returns c = headed-end _ _ _ _ (c .before .before .before .before .before .loop .inv) (now (c .before .before .before .before .before .before .before .before .before .before .before .args .out)) _ _ (c .before .before .before .before .before .before .before .before .before .before .before .pre) (c .before .before .before .before .before .before .before .before .put-number .ensures) (c .before .before .before .before .loop-test .left) (c .before .before .clear .ensures)
+returns c =
+    let l = c .before .before .before .before .before in
+    let n = l .before .before .before in
+    let s = n .before .before .before .before in
+    headed-end _ _ _ _ (l .loop .inv) (now (s .before .before .before .args .out)) _ _ _ (s .fill-start .ensures) (n .put-number .ensures) (c .before .before .before .before .loop-test .left) (c .before .before .clear .ensures)
 
 pub fill-header-spec : {M : Type 1} → statement M
 fill-header-spec =
@@ -32,13 +40,8 @@ fill-header-spec =
     (tie.spec
     Inv-loop
     μ-loop
-    (λ c. search needs)
-    (λ c. simp length-set (omega arith))
-    (λ c. simp length-set (omega arith))
-    (λ c. simp length-set (omega arith))
-    (λ c. simp length-set (omega arith))
-    (λ c. simp length-set (omega arith))
-    (λ c κs. simp length-set (omega arith))
+    (λ c κs. search needs)
+    (λ c κs. search needs)
     loop-holds
     (λ c. search needs)
     (λ c. search needs)
