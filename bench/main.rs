@@ -10,13 +10,14 @@ use reference::{unweave, weave, Admission, Rect, MOST_BYTES};
 /// One implementation of the jobs; an answer -n is question n's no.
 struct Jobs {
     name: &'static str,
-    write: fn(&[Admission], &mut [u8]) -> i64,
+    write: fn(&[Admission], u32, &mut [u8]) -> i64,
     check: fn(&[u8]) -> i64,
+    lift: fn(&[u8]) -> i64,
     lookup: fn(&[u8], u16, u16, &mut [u32; 9]) -> i64,
     count: fn(&[u8], Rect) -> i64,
     list: fn(&[u8], Rect, &mut [u32]) -> i64,
     find: fn(&[u8], u32) -> i64,
-    scan: fn(&[u8], &mut [u32], u16, u16, u32, u32) -> i64,
+    scan: fn(&[u8], &mut [u32], u16, u16, u32, u32, u32) -> i64,
 }
 
 fn answer<T>(r: Result<T, reference::No>, f: impl Fn(T) -> i64) -> i64 {
@@ -29,8 +30,9 @@ fn answer<T>(r: Result<T, reference::No>, f: impl Fn(T) -> i64) -> i64 {
 fn hand_written() -> Jobs {
     Jobs {
         name: "hand-written",
-        write: |l, o| answer(reference::write(l, o), |x| x as i64),
+        write: |l, lift, o| answer(reference::write(l, lift, o), |x| x as i64),
         check: |i| answer(reference::check(i), |x| x as i64),
+        lift: |i| answer(reference::lift(i), |x| x as i64),
         lookup: |i, h, s, o| match reference::lookup(i, h, s) {
             Ok(Some(f)) => {
                 o[0] = f.rank;
@@ -43,30 +45,32 @@ fn hand_written() -> Jobs {
         count: |i, r| answer(reference::count(i, r), |x| x as i64),
         list: |i, r, k| answer(reference::list(i, r, k), |x| x as i64),
         find: |i, r| answer(reference::find_by_rank(i, r), |(h, s)| (h as i64) << 16 | s as i64),
-        scan: |i, rec, h, s, t, l| answer(reference::scan(i, rec, h, s, t, l), |x| x as i64),
+        scan: |i, rec, h, s, t, l, lift| answer(reference::scan(i, rec, h, s, t, l, lift), |x| x as i64),
     }
 }
 
 extern "C" {
-    fn lpt_write(list: *const Admission, n: usize, out: *mut u8, out_len: usize) -> i64;
+    fn lpt_write(list: *const Admission, n: usize, lift: u32, out: *mut u8, out_len: usize) -> i64;
     fn lpt_check(img: *const u8, len: usize) -> i64;
+    fn lpt_lift(img: *const u8, len: usize) -> i64;
     fn lpt_lookup(img: *const u8, len: usize, holder: u16, slot: u16, out: *mut u32) -> i64;
     fn lpt_count(img: *const u8, len: usize, h0: u16, h1: u16, s0: u16, s1: u16) -> i64;
     fn lpt_list(img: *const u8, len: usize, h0: u16, h1: u16, s0: u16, s1: u16, keys: *mut u32, places: usize) -> i64;
     fn lpt_find(img: *const u8, len: usize, rank: u32) -> i64;
-    fn lpt_scan(img: *const u8, len: usize, rec: *mut u32, rec_len: usize, holder: u16, slot: u16, time: u32, lockout: u32) -> i64;
+    fn lpt_scan(img: *const u8, len: usize, rec: *mut u32, rec_len: usize, holder: u16, slot: u16, time: u32, lockout: u32, lift: u32) -> i64;
 }
 
 fn verified() -> Jobs {
     Jobs {
         name: "verified",
-        write: |l, o| unsafe { lpt_write(l.as_ptr(), l.len(), o.as_mut_ptr(), o.len()) },
+        write: |l, lift, o| unsafe { lpt_write(l.as_ptr(), l.len(), lift, o.as_mut_ptr(), o.len()) },
         check: |i| unsafe { lpt_check(i.as_ptr(), i.len()) },
+        lift: |i| unsafe { lpt_lift(i.as_ptr(), i.len()) },
         lookup: |i, h, s, o| unsafe { lpt_lookup(i.as_ptr(), i.len(), h, s, o.as_mut_ptr()) },
         count: |i, q| unsafe { lpt_count(i.as_ptr(), i.len(), q.h0, q.h1, q.s0, q.s1) },
         list: |i, q, k| unsafe { lpt_list(i.as_ptr(), i.len(), q.h0, q.h1, q.s0, q.s1, k.as_mut_ptr(), k.len()) },
         find: |i, r| unsafe { lpt_find(i.as_ptr(), i.len(), r) },
-        scan: |i, rec, h, s, t, l| unsafe { lpt_scan(i.as_ptr(), i.len(), rec.as_mut_ptr(), rec.len(), h, s, t, l) },
+        scan: |i, rec, h, s, t, l, lift| unsafe { lpt_scan(i.as_ptr(), i.len(), rec.as_mut_ptr(), rec.len(), h, s, t, l, lift) },
     }
 }
 
@@ -88,6 +92,9 @@ impl Rng {
 }
 
 const N: usize = 4096;
+
+/// The lift of the images that are timed.
+const LIFT: u32 = 7;
 
 struct Data {
     name: &'static str,
@@ -124,7 +131,7 @@ fn data(name: &'static str, r: &mut Rng) -> Data {
     let keys: Vec<u32> = set.iter().copied().collect();
     let list: Vec<Admission> = keys.iter().map(|&k| { let (holder, slot) = unweave(k); Admission { holder, slot } }).collect();
     let mut img = vec![0u8; MOST_BYTES];
-    let n = reference::write(&list, &mut img).unwrap();
+    let n = reference::write(&list, LIFT, &mut img).unwrap();
     img.truncate(n);
     let pick = |r: &mut Rng| list[r.below(N as u64) as usize];
     let hits = (0..1024).map(|_| keys[r.below(N as u64) as usize]).collect();
@@ -179,14 +186,21 @@ fn compare(ds: &[Data], a: &Jobs, b: &Jobs) -> usize {
             let list: Vec<Admission> = d.list.iter().copied().skip(r.below(50) as usize).step_by(step).collect();
             let (mut oa, mut ob) = (vec![7u8; MOST_BYTES], vec![7u8; MOST_BYTES]);
             let short = if round % 9 == 0 { r.below(3000) as usize } else { MOST_BYTES };
-            let x = (a.write)(&list, &mut oa[..short]);
-            let y = (b.write)(&list, &mut ob[..short]);
+            let lift = match round % 11 { 0 => 0, 1 => 1000, 2 => 65536 + 7, 3 => 999, _ => 1 + r.below(999) as u32 };
+            let x = (a.write)(&list, lift, &mut oa[..short]);
+            let y = (b.write)(&list, lift, &mut ob[..short]);
             assert!(x == y && oa == ob, "write {x} {y}");
             n += 1;
             if x < 0 {
                 continue;
             }
             let mut img = oa[..x as usize].to_vec();
+            if round % 5 == 0 {
+                img[4] = 1; // version 1, now and then with the lift left in
+                if round % 4 != 0 {
+                    img[40..42].fill(0);
+                }
+            }
             if round % 3 != 0 {
                 for _ in 0..1 + r.below(2) {
                     let at = 64 * r.below(x as u64 / 64) as usize + r.below(if r.0 % 2 == 0 { 4 } else { 64 }) as usize;
@@ -198,7 +212,8 @@ fn compare(ds: &[Data], a: &Jobs, b: &Jobs) -> usize {
                 }
             }
             assert_eq!((a.check)(&img), (b.check)(&img), "check");
-            n += 1;
+            assert_eq!((a.lift)(&img), (b.lift)(&img), "lift");
+            n += 2;
             for i in 0..12u32 {
                 let k = if i % 2 == 0 { list[r.below(list.len() as u64) as usize] } else { let (holder, slot) = unweave(d.misses[r.below(1024) as usize]); Admission { holder, slot } };
                 let (mut p, mut q) = ([9u32; 9], [9u32; 9]);
@@ -220,7 +235,8 @@ fn compare(ds: &[Data], a: &Jobs, b: &Jobs) -> usize {
                 let mut u: Vec<u32> = (0..list.len() + 1 + wrong).map(|_| if r.below(2) == 0 { 0 } else { r.below(2000) as u32 }).collect();
                 let mut v = u.clone();
                 let (t, l) = (r.below(2000) as u32, r.below(900) as u32);
-                let (x, y) = ((a.scan)(&img, &mut u, k.holder, k.slot, t, l), (b.scan)(&img, &mut v, k.holder, k.slot, t, l));
+                let gate = if i % 5 == 4 { lift + 65536 * r.below(2) as u32 + r.below(2) as u32 } else { lift };
+                let (x, y) = ((a.scan)(&img, &mut u, k.holder, k.slot, t, l, gate), (b.scan)(&img, &mut v, k.holder, k.slot, t, l, gate));
                 assert!(x == y && u == v, "scan {x} {y}");
                 n += 5;
             }
@@ -265,9 +281,10 @@ fn rows(d: &'static Data, both: &[Jobs]) -> Vec<Row> {
         cases.extend(sorted);
         rows.push(Row { op: op.to_string(), cases });
     };
-    add("write", &|j| { let (f, mut o) = (j.write, vec![0u8; MOST_BYTES]); case(j.name, 1, move || f(bb(&d.list), &mut o) as u64) }, None);
+    add("write", &|j| { let (f, mut o) = (j.write, vec![0u8; MOST_BYTES]); case(j.name, 1, move || f(bb(&d.list), LIFT, &mut o) as u64) }, None);
     add("check", &|j| { let f = j.check; case(j.name, 1, move || f(bb(img)) as u64) },
         Some(case("sorted array", 1, move || bb(&d.keys).windows(2).all(|w| w[0] < w[1]) as u64)));
+    add("lift", &|j| { let f = j.lift; case(j.name, 1, move || f(bb(img)) as u64) }, None);
     for (op, qs) in [("lookup, listed", &d.hits), ("lookup, absent", &d.misses)] {
         add(op, &|j| { let f = j.lookup; case(j.name, 32, move || { let mut o = [0; 9];
             qs[..32].iter().map(|&k| { let (h, s) = unweave(k); f(bb(img), h, s, &mut o) as u64 + o[0] as u64 }).sum() }) },
@@ -287,7 +304,7 @@ fn rows(d: &'static Data, both: &[Jobs]) -> Vec<Row> {
     add("list, whole square", &|j| { let (f, mut o) = (j.list, vec![0u32; N]); case(j.name, 1, move || f(bb(img), whole, &mut o) as u64) },
         Some(case("sorted array", 1, { let mut o = vec![0u32; N]; move || { o.copy_from_slice(bb(&d.keys)); bb(&o)[7] as u64 } })));
     add("scan that opens", &|j| { let (f, mut rec, mut t) = (j.scan, vec![0u32; N + 1], 0u32);
-        case(j.name, 32, move || { t += 1; rec[N] = 0; d.hits[..32].iter().map(|&k| { let (h, s) = unweave(k); f(bb(img), &mut rec, h, s, t, 0) as u64 }).sum() }) }, None);
+        case(j.name, 32, move || { t += 1; rec[N] = 0; d.hits[..32].iter().map(|&k| { let (h, s) = unweave(k); f(bb(img), &mut rec, h, s, t, 0, LIFT) as u64 }).sum() }) }, None);
     rows
 }
 

@@ -92,30 +92,37 @@ fn be16(b: &[u8], i: usize) -> u32 {
 
 struct Head {
     keys: u32,
+    /// 0 in version 1
+    lift: u32,
     pages: [u32; BANDS],
     roots: [u32; BANDS],
     /// image page number of each band's first page (pages are numbered from 1)
     first: [u32; BANDS],
 }
 
-/// Questions 1 to 7.
+/// Questions 1 to 7, with 35.
 #[inline]
 fn head(img: &[u8]) -> Result<Head, No> {
     let Some(b) = img.first_chunk::<PAGE>() else { return Err(No(1)) };
     if b[0..3] != [0x4c, 0x50, 0x54] {
         return Err(No(2));
     }
-    if be16(b, 3) != 1 {
+    let version = be16(b, 3);
+    if version != 1 && version != 2 {
         return Err(No(3));
     }
     let keys = be16(b, 6);
     if keys > MAX_KEYS as u32 {
         return Err(No(4));
     }
-    if b[5] != 0 || b[40..64] != [0u8; 24] {
+    let lift = be16(b, 40);
+    if b[5] != 0 || b[42..64] != [0u8; 22] || (version == 1 && lift != 0) {
         return Err(No(5));
     }
-    let mut h = Head { keys, pages: [0; 8], roots: [0; 8], first: [0; 8] };
+    if version == 2 && !(1..=999).contains(&lift) {
+        return Err(No(35));
+    }
+    let mut h = Head { keys, lift, pages: [0; 8], roots: [0; 8], first: [0; 8] };
     let mut next = 1;
     let mut all_zero = true;
     let mut some_zero = false;
@@ -336,6 +343,11 @@ fn accepted(img: &[u8]) -> Result<Head, No> {
 /// The checker: questions 1 to 13, then the key count.
 pub fn check(img: &[u8]) -> Result<u32, No> {
     accepted(img).map(|h| h.keys)
+}
+
+/// The lift of an accepted image, 0 in version 1.
+pub fn lift(img: &[u8]) -> Result<u32, No> {
+    accepted(img).map(|h| h.lift)
 }
 
 // -------------------------------------------------------------------------------------- lookup
@@ -715,8 +727,11 @@ pub fn list(img: &[u8], q: Rect, buf: &mut [u32]) -> Result<u32, No> {
 
 // ---------------------------------------------------------------------------------------- scan
 
-pub fn scan(img: &[u8], rec: &mut [u32], holder: u16, slot: u16, time: u32, lockout: u32) -> Result<u32, No> {
+pub fn scan(img: &[u8], rec: &mut [u32], holder: u16, slot: u16, time: u32, lockout: u32, lift: u32) -> Result<u32, No> {
     let h = accepted(img)?;
+    if h.lift != 0 && h.lift != lift {
+        return Err(No(36));
+    }
     let n = h.keys as usize;
     if rec.len() != n + 1 {
         return Err(No(21));
@@ -841,8 +856,11 @@ fn close(o: &mut Open, out: &mut [u8]) {
     o.outs += o.set.count_ones();
 }
 
-/// The writer: questions 14 to 17, then the image's length.
-pub fn write(list: &[Admission], out: &mut [u8]) -> Result<usize, No> {
+/// The writer: questions 35, 14, 15 and 17, then the image's length.
+pub fn write(list: &[Admission], lift: u32, out: &mut [u8]) -> Result<usize, No> {
+    if !(1..=999).contains(&lift) {
+        return Err(No(35));
+    }
     if list.len() > MAX_KEYS {
         return Err(No(14));
     }
@@ -888,7 +906,8 @@ pub fn write(list: &[Admission], out: &mut [u8]) -> Result<usize, No> {
     // Header.
     let hd = &mut out[..PAGE];
     hd.fill(0);
-    hd[..5].copy_from_slice(&[0x4c, 0x50, 0x54, 0, 1]);
+    hd[..5].copy_from_slice(&[0x4c, 0x50, 0x54, 0, 2]);
+    hd[40..42].copy_from_slice(&(lift as u16).to_be_bytes());
     hd[6..8].copy_from_slice(&(list.len() as u16).to_be_bytes());
     for b in 0..BANDS {
         hd[8 + 4 * b..][..2].copy_from_slice(&(pages[b] as u16).to_be_bytes());

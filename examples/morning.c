@@ -11,6 +11,7 @@
 
 #define HOLDERS 40
 #define MORNING 8
+#define LIFT 7
 
 /* The key of an admission: holder and slot bit by bit, the holder's first. */
 static uint32_t key_of(lpt_admission a)
@@ -46,13 +47,14 @@ int main(void)
     qsort(list, n, sizeof list[0], by_key);
 
     static uint8_t image[LPT_MOST_BYTES];
-    int64_t size = lpt_write(list, n, image, sizeof image);
+    int64_t size = lpt_write(list, n, LIFT, image, sizeof image);
     say("bytes written", size);
     if (size < 0)
         return 1;
     say("admissions", lpt_check(image, (size_t)size));
+    say("for lift", lpt_lift(image, (size_t)size));
 
-    /* One flipped bit is refused, always. */
+    /* One flipped bit is refused, always, unless it makes another lift number of bytes 40 and 41. */
     image[200] ^= 4;
     say("with a flipped bit", lpt_check(image, (size_t)size));
     image[200] ^= 4;
@@ -68,11 +70,12 @@ int main(void)
     /* Scans, with a lockout of ten minutes. */
     static uint32_t records[3 * HOLDERS + 1];
     size_t places = n + 1;
-    say("holder 1007 at 1000", lpt_scan(image, (size_t)size, records, places, 1007, MORNING, 1000, 600));
-    say("again at 1599", lpt_scan(image, (size_t)size, records, places, 1007, MORNING, 1599, 600));
-    say("again at 1600", lpt_scan(image, (size_t)size, records, places, 1007, MORNING, 1600, 600));
-    say("at 900, before its last opening", lpt_scan(image, (size_t)size, records, places, 1007, MORNING, 900, 600));
-    say("holder 1008, who has no admission", lpt_scan(image, (size_t)size, records, places, 1008, MORNING, 1600, 600));
+    say("holder 1007 at 1000", lpt_scan(image, (size_t)size, records, places, 1007, MORNING, 1000, 600, LIFT));
+    say("again at 1599", lpt_scan(image, (size_t)size, records, places, 1007, MORNING, 1599, 600, LIFT));
+    say("again at 1600", lpt_scan(image, (size_t)size, records, places, 1007, MORNING, 1600, 600, LIFT));
+    say("at 900, before its last opening", lpt_scan(image, (size_t)size, records, places, 1007, MORNING, 900, 600, LIFT));
+    say("holder 1008, who has no admission", lpt_scan(image, (size_t)size, records, places, 1008, MORNING, 1600, 600, LIFT));
+    say("at the neighbour's gate", lpt_scan(image, (size_t)size, records, places, 1014, MORNING, 1600, 600, LIFT + 1));
     say("openings", records[n]);
 
     uint32_t found[9];

@@ -35,12 +35,18 @@ typedef struct {
 /* The most bytes that an image can have (proved): a buffer of so many has room for any image. */
 #define LPT_MOST_BYTES 24640
 
-/* Refusals of an image, by every function that takes one. */
+/*
+ * An image of version 2 is for one lift, numbered 1 to 999; one of version 1 names no lift, and counts as lift 0.
+ * Lift numbers are taken as 32 bits, so that one too large is refused and not cut.
+ */
+
+/* Refusals of an image, by every function that takes one; 35 is asked after 5, and is among 1 to 13 below. */
 #define LPT_NO_HEADER 1       /* fewer than 64 bytes */
 #define LPT_NO_MARK 2         /* the first bytes are not 4C 50 54 */
-#define LPT_NO_VERSION 3      /* the version is not 1 */
+#define LPT_NO_VERSION 3      /* the version is neither 1 nor 2 */
 #define LPT_NO_KEY_COUNT 4    /* more than 4,096 keys */
 #define LPT_NO_ZERO_BYTES 5   /* a byte that must be zero is not */
+#define LPT_NO_LIFT 35        /* version 2, or lpt_write: the lift is not 1 to 999 */
 #define LPT_NO_LENGTH 6       /* the length is not 64 x (1 + all page counts) */
 #define LPT_NO_BAND_COUNTS 7  /* page and root counts do not fit the key count */
 #define LPT_NO_COUNTERS 8     /* a page's T or B is wrong */
@@ -50,7 +56,7 @@ typedef struct {
 #define LPT_NO_PACKING 12     /* a page was started before it had to be */
 #define LPT_NO_LINKS 13       /* a band's out-links do not fit the band below, or the key count */
 
-/* Refusals of a list, by lpt_write. Number 16 is not used. */
+/* Refusals of a list, by lpt_write, after LPT_NO_LIFT. Number 16 is not used. */
 #define LPT_NO_MORE 14        /* more than 4,096 admissions */
 #define LPT_NO_ORDER 15       /* the keys do not strictly ascend */
 #define LPT_NO_ROOM 17        /* the output buffer is too short for the image */
@@ -63,6 +69,7 @@ typedef struct {
 #define LPT_NO_RANK 20        /* the rank is not below the key count */
 
 /* Refusals of a scan, by lpt_scan. */
+#define LPT_NO_GATE 36        /* the image is for another lift than the gate's */
 #define LPT_NO_RECORDS 21     /* the record buffer's length is not key count + 1 */
 #define LPT_NO_TIME 22        /* the time is 4,294,967,295 */
 #define LPT_NO_OPENINGS 23    /* the openings count is 4,294,967,295 */
@@ -71,14 +78,17 @@ typedef struct {
 #define LPT_NO_LOCKOUT 26     /* the lockout is not over */
 
 /*
- * Writes the image of a list. The admissions must be in strictly ascending order of their keys (lpt.h has
- * no sorting: docs/FORMAT.md says how a key is made). Returns the image's length and fills just that many
- * first bytes of out; LPT_MOST_BYTES are always enough. Refuses with 14, 15 or 17.
+ * Writes the image of a list for a lift, in version 2. The admissions must be in strictly ascending order of
+ * their keys (lpt.h has no sorting: docs/FORMAT.md says how a key is made). Returns the image's length and fills
+ * just that many first bytes of out; LPT_MOST_BYTES are always enough. Refuses with 35, 14, 15 or 17.
  */
-int64_t lpt_write(const lpt_admission *list, size_t n, uint8_t *out, size_t out_len);
+int64_t lpt_write(const lpt_admission *list, size_t n, uint32_t lift, uint8_t *out, size_t out_len);
 
 /* Checks an image. Returns its key count. Refuses with 1 to 13. */
 int64_t lpt_check(const uint8_t *img, size_t len);
+
+/* Returns the lift that an image is for, 0 for version 1. Refuses with 1 to 13. */
+int64_t lpt_lift(const uint8_t *img, size_t len);
 
 /*
  * Looks an admission up. Returns 1 and fills out[0] with its rank and out[1] to out[8] with the numbers of the
@@ -104,12 +114,12 @@ int64_t lpt_find(const uint8_t *img, size_t len, uint32_t rank);
 
 /*
  * Scans a card. rec has key count + 1 elements, zeros for a new gate: element r is 0 if the admission of rank r
- * never opened, else the time of its last opening + 1; the last element counts openings. An opening returns the
- * rank, writes time + 1 there and adds one to the last element. Refuses with 1 to 13, 21 to 26, and then no
- * element changes.
+ * never opened, else the time of its last opening + 1; the last element counts openings. lift is the gate's own:
+ * any number, and an image of version 1 passes at any gate. An opening returns the rank, writes time + 1 there
+ * and adds one to the last element. Refuses with 1 to 13, 36, 21 to 26, and then no element changes.
  */
 int64_t lpt_scan(const uint8_t *img, size_t len, uint32_t *rec, size_t rec_len,
-                 uint16_t holder, uint16_t slot, uint32_t time, uint32_t lockout);
+                 uint16_t holder, uint16_t slot, uint32_t time, uint32_t lockout, uint32_t lift);
 
 #ifdef __cplusplus
 }

@@ -9,7 +9,7 @@ use lib.ListN.{length}
 use Rattle.format.specs.declared.Admission.{Admission}
 use Rattle.format.specs.Key.{woven}
 use Rattle.format.specs.Question.{Yes, returns}
-use Rattle.format.specs.Writer.{imageOf, listQuestions, roomQuestion, write, writeKeys}
+use Rattle.format.specs.Writer.{imageOf, liftQuestion, listQuestions, roomQuestion, write, writeKeys}
 use Rattle.format.proofs.Lists.{all-left}
 use Rattle.format.proofs.Questions.{none-of-yes, yes-of-none}
 use Rattle.format.proofs.Jobs.{of-writable, yes-of-returns}
@@ -22,19 +22,20 @@ use Rattle.writer.specs.declared.Written.the-variants.{Length, Refused}
 use Rattle.capi.specs.Encoding.{WithinBound, WrittenToC, encoded}
 
 -- a length that the writer returns is within format's bound
-write-small : (list : List (ℕ × ℕ)) (buffer : List ℕ) (n : ℕ) → write list buffer ≡ returns n → n ≤ 24640
+write-small : (lift : ℕ) (list : List (ℕ × ℕ)) (buffer : List ℕ) (n : ℕ) → write lift list buffer ≡ returns n → n ≤ 24640
 unfolding write writeKeys
-write-small list buffer n e =
+write-small lift list buffer n e =
     let keys = woven list in
-    let (asked, same) = yes-of-returns (listQuestions keys ++ roomQuestion keys buffer ∷ []) (length (imageOf keys)) n e in
-    let q = of-writable keys (none-of-yes (listQuestions keys) (all-left Yes (listQuestions keys) (roomQuestion keys buffer ∷ []) (yes-of-none (listQuestions keys ++ roomQuestion keys buffer ∷ []) asked))) in
-    omega (arith, same, page-bound .of-list keys (woven-fits list) (q .0) (q .1) .size)
+    let qs = liftQuestion lift ∷ listQuestions keys ++ roomQuestion lift keys buffer ∷ [] in
+    let (asked, same) = yes-of-returns qs (length (imageOf lift keys)) n e in
+    let q = of-writable keys (none-of-yes (listQuestions keys) (all-left Yes (listQuestions keys) (roomQuestion lift keys buffer ∷ []) (yes-of-none qs asked .1))) in
+    omega (arith, same, page-bound .of-list lift keys (woven-fits list) (q .0) (q .1) .size)
 
 -- so is the one that its answer to the lent list holds
-pub within : (list : List Admission) (buffer : List ℕ) (t : Written) (buffer′ : List ℕ) → WrittenList list buffer t buffer′ → WithinBound t
-within list buffer (Length n) buffer′ w = write-small (pairsIn list) buffer n (sym (w .returned))
-within list buffer (Refused n) buffer′ w = tt
+pub within : (lift : ℕ) (list : List Admission) (buffer : List ℕ) (t : Written) (buffer′ : List ℕ) → WrittenList lift list buffer t buffer′ → WithinBound t
+within lift list buffer (Length n) buffer′ w = write-small lift (pairsIn list) buffer n (sym (w .returned))
+within lift list buffer (Refused n) buffer′ w = tt
 
 -- what the writer answers and leaves in the buffer, as C gets it
-pub to-c : (list : List Admission) (buffer : List ℕ) (t : Written) (r : ℤ) (buffer′ : List ℕ) → WrittenList list buffer t buffer′ → r ≡ encoded (outcomeOf t) → WrittenToC list buffer r buffer′
-to-c list buffer t r buffer′ w e = record { returned = e ∙ ap encoded (w .returned); bytes = w .bytes }
+pub to-c : (lift : ℕ) (list : List Admission) (buffer : List ℕ) (t : Written) (r : ℤ) (buffer′ : List ℕ) → WrittenList lift list buffer t buffer′ → r ≡ encoded (outcomeOf t) → WrittenToC lift list buffer r buffer′
+to-c lift list buffer t r buffer′ w e = record { returned = e ∙ ap encoded (w .returned); bytes = w .bytes }

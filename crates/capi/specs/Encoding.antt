@@ -8,8 +8,10 @@ use Rattle.format.specs.declared.Admission.{Admission}
 use Rattle.format.specs.declared.Rectangle.{Rectangle}
 use Rattle.format.specs.Writer.{write, bufferAfterWrite}
 use Rattle.writer.specs.List.{pairsIn}
+use Rattle.checker.specs.declared.Checked.{Checked}
+use Rattle.checker.specs.declared.Checked.the-variants.{Accepted, Refused}
 use Rattle.writer.specs.declared.Written.{Written}
-use Rattle.writer.specs.declared.Written.the-variants.{Length, Refused}
+use Rattle.writer.specs.declared.Written.the-variants as written
 use Rattle.format.specs.Question.{Outcome, refused, returns}
 use Rattle.format.specs.Answer.{LookupAnswer, absent, listed}
 
@@ -40,10 +42,15 @@ rectangleOf h0 h1 s0 s1 = record { holders = record { low = h0; high = h1 }; slo
 
 -- an answer of the writer whose length, where it has one, is within format's bound
 abbrev pub WithinBound : Written → Type 0
-WithinBound (Length n) = n ≤ 24640
-WithinBound (Refused n) = Unit {0}
+WithinBound (written.Length n) = n ≤ 24640
+WithinBound (written.Refused n) = Unit {0}
 
--- the writer: what it returns, and the buffer at exit
-pub record WrittenToC (list : List Admission) (buffer : List ℕ) (r : ℤ) (buffer′ : List ℕ) : Type 0 where
-  pub returned : r ≡ encoded (write (pairsIn list) buffer)
-  pub bytes : buffer′ ≡ bufferAfterWrite (pairsIn list) buffer
+-- an answer of the checker whose number, where it has one, is small: a key count or a lift
+abbrev pub WithinCount : Checked → Type 0
+WithinCount (Accepted n) = n ≤ 4096
+WithinCount (Refused n) = Unit {0}
+
+-- the writer for a lift: what it returns, and the buffer at exit
+pub record WrittenToC (lift : ℕ) (list : List Admission) (buffer : List ℕ) (r : ℤ) (buffer′ : List ℕ) : Type 0 where
+  pub returned : r ≡ encoded (write lift (pairsIn list) buffer)
+  pub bytes : buffer′ ≡ bufferAfterWrite lift (pairsIn list) buffer

@@ -6,8 +6,9 @@ ghost use lib.IntN.{pos, negℤ};
 ghost use Rattle.format.specs.Writer;
 ghost use Rattle.format.specs.Answer;
 ghost use Rattle.format.specs.Scan;
+ghost use Rattle.checker.specs.Outcomes;
 ghost use Rattle.writer.specs.Writer.{outcomeOf};
-ghost use Rattle.capi.specs.Encoding.{encoded, encodedLookup, lookupBuffer, encodedFind, rectangleOf, WithinBound, WrittenToC};
+ghost use Rattle.capi.specs.Encoding.{encoded, encodedLookup, lookupBuffer, encodedFind, rectangleOf, WithinBound, WithinCount, WrittenToC};
 use checker::Checked;
 use format::Admission;
 use format::Range;
@@ -53,22 +54,37 @@ fn written(answered: Written) -> i64
     }
 }
 
+// The checker's answer.
+fn checked(answered: Checked) -> i64
+    requires { ⌜ WithinCount answered ⌝ }
+    ensures { λ r. ⌜ r ≡ encoded (Outcomes.outcomeOf answered) ⌝ }
+{
+    match answered {
+        Checked::Accepted(n) => answer(n),
+        Checked::Refused(n) => refusal(n),
+    }
+}
+
 // Over a lent slice of structs, so proved by hand.
 #[no_mangle]
-pub extern "C" fn lpt_write(list: &[Admission], out: &mut [u8]) -> i64
-    ensures { λ r. ⌜ WrittenToC (now (list .entry)) (now (out .entry)) r (now (out .exit)) ⌝ }
+pub extern "C" fn lpt_write(list: &[Admission], lift: u32, out: &mut [u8]) -> i64
+    ensures { λ r. ⌜ WrittenToC lift (now (list .entry)) (now (out .entry)) r (now (out .exit)) ⌝ }
 {
-    written(writer::write(list, out))
+    written(writer::write(list, lift, out))
 }
 
 #[no_mangle]
 pub extern "C" fn lpt_check(img: &[u8]) -> i64
     ensures { λ r. ⌜ r ≡ encoded (Answer.check (now (img .entry))) ⌝ }
 {
-    match checker::check(img) {
-        Checked::Accepted(n) => answer(n),
-        Checked::Refused(n) => refusal(n),
-    }
+    checked(checker::check(img))
+}
+
+#[no_mangle]
+pub extern "C" fn lpt_lift(img: &[u8]) -> i64
+    ensures { λ r. ⌜ r ≡ encoded (Answer.lift (now (img .entry))) ⌝ }
+{
+    checked(checker::lift(img))
 }
 
 // The rank and the page numbers in the nine places.
@@ -147,10 +163,11 @@ pub extern "C" fn lpt_scan(
     slot: u16,
     time: u32,
     lockout: u32,
+    lift: u32,
 ) -> i64
-    ensures { λ r. ⌜ (r ≡ encoded (Scan.scan (now (img .entry)) (now (rec .entry)) holder slot time lockout)) × (now (rec .exit) ≡ Scan.recordsAfterScan (now (img .entry)) (now (rec .entry)) holder slot time lockout) ⌝ }
+    ensures { λ r. ⌜ (r ≡ encoded (Scan.scan lift (now (img .entry)) (now (rec .entry)) holder slot time lockout)) × (now (rec .exit) ≡ Scan.recordsAfterScan lift (now (img .entry)) (now (rec .entry)) holder slot time lockout) ⌝ }
 {
-    match gate::scan(img, rec, holder, slot, time, lockout) {
+    match gate::scan(img, rec, holder, slot, time, lockout, lift) {
         Scanned::Opened(rank) => answer(rank as usize),
         Scanned::Refused(n) => refusal(n),
     }

@@ -19,11 +19,10 @@ use Rattle.format.specs.Question.{Question, bandQuestions, firstNo, headRight, 
 use Rattle.format.proofs.Checked.{cond-yes}
 use Rattle.format.proofs.Lists.{and-left, and-right, numbers-split, total-append}
 use Rattle.format.proofs.Read.{pages-within}
-use Rattle.format.proofs.Questions.{after-yes, after-no, next-turn, no-at-turn, yes-of-none}
+use Rattle.format.proofs.Questions.{after-no, after-yes, asked-no, asked-yes, next-turn, no-at-turn, yes-of-none}
 use Rattle.checker.specs.declared.page.Shape.{Shape}
 use Rattle.header.specs.Refusal.{refusalOf}
 use Rattle.checker.specs.Paged.{shapeQuestions, questionsAt, PageAsked, BandAt}
-use Rattle.header.proofs.Asked.{asked-yes, asked-no}
 
 -- ---- what the pages before page i of band b ask of its T and B, and the nodes of the page before it: 241 before a band's first page
 

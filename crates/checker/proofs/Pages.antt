@@ -10,11 +10,10 @@ use lib.Dec.{eqb, leb}
 use lib.ListN.{drop}
 use Rattle.format.specs.Page.{numberAt}
 use Rattle.format.specs.Question.{Question, firstNo}
-use Rattle.format.proofs.Questions.{after-yes, after-no}
+use Rattle.format.proofs.Questions.{after-no, after-yes, asked-no, asked-yes}
 use Rattle.checker.specs.declared.page.Shape.{Shape}
 use Rattle.header.specs.Refusal.{refusalOf}
 use Rattle.checker.specs.Paged.{pairsAt, shapeQuestions, questionsAt, Shaped, PageAsked}
-use Rattle.header.proofs.Asked.{asked-yes, asked-no}
 
 -- ---- the number of the first no
 

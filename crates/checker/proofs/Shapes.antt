@@ -26,7 +26,7 @@ use Rattle.nodes.proofs.Calls.{counted, all-counted, none-found-empty, rest-fou
 use Rattle.header.specs.Refusal.{refusalOf}
 use Rattle.checker.specs.declared.page.Shape.{Shape}
 use Rattle.checker.specs.Paged.{pairsAt, levels, shapeQuestions, Shaped}
-use Rattle.header.proofs.Asked.{asked-yes, asked-no}
+use Rattle.format.proofs.Questions.{asked-yes, asked-no}
 
 -- ---- bounds
 

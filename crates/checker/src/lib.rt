@@ -1,4 +1,4 @@
-// The checker: questions 1 to 13 of any bytes.
+// The checker: questions 1 to 13, with 35, of any bytes.
 mod band;
 mod page;
 
@@ -9,7 +9,7 @@ ghost use mathlib.Core.Path.{_≡_};
 ghost use Rattle.format.specs.Answer;
 ghost use Rattle.checker.specs.Outcomes.{outcomeOf};
 
-// The checker's answer: the key count of an accepted image, or the number of the first question that gets a no.
+// The checker's answer: the key count of an accepted image, or its lift, or the number of the first question that gets a no.
 pub enum Checked {
     Accepted(usize),
     Refused(u8),
@@ -28,4 +28,14 @@ pub fn check(image: &[u8]) -> Checked
         return Checked::Refused(of_bands);
     }
     Checked::Accepted(key_count(image))
+}
+
+// The lift that an accepted image is for, 0 in version 1.
+pub fn lift(image: &[u8]) -> Checked
+    ensures { λ r. ⌜ outcomeOf r ≡ Answer.lift (now (image .entry)) ⌝ }
+{
+    match check(image) {
+        Checked::Accepted(_) => Checked::Accepted(header::lift(image)),
+        Checked::Refused(n) => Checked::Refused(n),
+    }
 }

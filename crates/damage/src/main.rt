@@ -1,11 +1,18 @@
-// Reads an image from standard input, turns over each of its bits in turn, and prints how many of these images each question refuses, and which are
-// accepted, with the list that such an image then has.
+// Reads an image from standard input, turns over each of its bits in turn, and prints how many of these images each question refuses, which have
+// another lift and are accepted with the same list, and which are accepted otherwise, with the list that such an image then has. No image is: a bit
+// of the lift is the only one that can go unnoticed.
 use checker::Checked;
 use testing::one_more;
+use testing::starts_with_bytes;
 
-// How many images each question refused; place 0 counts the accepted ones.
+// The number for an image that is accepted with the same list and another lift.
+const OTHER_LIFT: usize = 41;
+
+// The lift of the image that is surveyed, and how many images with a bit turned over each question refused; place 0 counts those that are accepted
+// otherwise, and the last those with another lift.
 pub struct Survey {
-    pub counts: [u32; 32],
+    pub lift: usize,
+    pub counts: [u32; 42],
 }
 
 // The checker's number, or 0 for an accepted image.
@@ -16,14 +23,25 @@ fn refusal(image: &[u8]) -> usize {
     }
 }
 
-// The survey with one more image refused by question `n`, or accepted for 0.
+// The lift of an accepted image.
+fn lift_of(image: &[u8]) -> usize {
+    match checker::lift(image) {
+        Checked::Accepted(n) => n,
+        Checked::Refused(_) => 65536,
+    }
+}
+
+// The survey with one more image that got the number `n`.
 fn with_one(survey: Survey, n: usize) -> Survey {
     let mut counts = survey.counts;
-    if 32 <= n {
+    if 42 <= n {
         return survey;
     }
     counts[n] = one_more(counts[n]);
-    Survey { counts }
+    Survey {
+        lift: survey.lift,
+        counts,
+    }
 }
 
 // Says that the image is accepted with a bit of byte `at` turned over, and prints its list. `bit` is 1 for bit 0, the lowest, and 128 for bit 7.
@@ -38,44 +56,72 @@ fn say_accepted(image: &[u8], at: usize, bit: u8) {
     io::write_all(1, &out[0..size]);
 }
 
-// The checker's number for an image with a bit of byte `at` turned over, or 0; an accepted one is said.
-fn judge(image: &[u8], at: usize, bit: u8) -> usize {
-    let n = refusal(image);
-    if n == 0 {
-        say_accepted(image, at, bit);
+// Whether the listing program prints this text of an image.
+fn is_printed(image: &[u8], text: &[u8]) -> bool {
+    let mut out = [0u8; 73745];
+    let size = report::report(image, &mut out);
+    if size != text.len() {
+        return false;
     }
-    n
+    starts_with_bytes(&out[0..size], text)
 }
 
-// The image with one bit of byte `at` turned over, judged; the bit is turned back.
-fn survey_bit(image: &mut [u8], at: usize, bit: u8, survey: Survey) -> Survey {
+// The number of an accepted image: another lift and the same list, or 0.
+fn accepted(image: &[u8], text: &[u8], lift: usize) -> usize {
+    if lift_of(image) == lift {
+        return 0;
+    }
+    if !is_printed(image, text) {
+        return 0;
+    }
+    OTHER_LIFT
+}
+
+// The number of an image with a bit of byte `at` turned over; one that is accepted otherwise than for another lift is said.
+fn judge(image: &[u8], text: &[u8], lift: usize, at: usize, bit: u8) -> usize {
+    let n = refusal(image);
+    if n != 0 {
+        return n;
+    }
+    let kind = accepted(image, text, lift);
+    if kind == 0 {
+        say_accepted(image, at, bit);
+    }
+    kind
+}
+
+// The image with one bit of byte `at` turned over, judged; the bit is turned back. `text` is what the listing program prints of the image.
+fn survey_bit(image: &mut [u8], text: &[u8], at: usize, bit: u8, survey: Survey) -> Survey {
     if image.len() <= at {
         return survey;
     }
     let before = image[at];
     image[at] = before ^ bit;
-    let n = judge(image, at, bit);
+    let n = judge(image, text, survey.lift, at, bit);
     image[at] = before;
     with_one(survey, n)
 }
 
 // Each bit of one byte, the highest first.
-fn survey_byte(image: &mut [u8], at: usize, survey: Survey) -> Survey {
+fn survey_byte(image: &mut [u8], text: &[u8], at: usize, survey: Survey) -> Survey {
     let mut s = survey;
     let mut bit: u8 = 128;
     while 0 < bit {
-        s = survey_bit(image, at, bit, s);
+        s = survey_bit(image, text, at, bit, s);
         bit /= 2;
     }
     s
 }
 
 // Each byte from the first to before `end`.
-fn survey_bytes(image: &mut [u8], end: usize) -> Survey {
-    let mut survey = Survey { counts: [0u32; 32] };
+fn survey_bytes(image: &mut [u8], text: &[u8], end: usize) -> Survey {
+    let mut survey = Survey {
+        lift: lift_of(image),
+        counts: [0u32; 42],
+    };
     let mut at: usize = 0;
     while at < end {
-        survey = survey_byte(image, at, survey);
+        survey = survey_byte(image, text, at, survey);
         at += 1;
     }
     survey
@@ -93,18 +139,30 @@ fn say_question(n: usize, count: u32) {
     io::write_all(1, b"\n");
 }
 
-// A line for each such question, and the last line.
-fn say_survey(survey: Survey, bytes: usize) {
+// A line for each such question.
+fn say_questions(survey: Survey) {
     let counts = survey.counts;
     let mut n: usize = 1;
-    while n < 32 {
+    while n < OTHER_LIFT {
         say_question(n, counts[n]);
         n += 1;
     }
+}
+
+// The last two lines.
+fn say_totals(other_lift: u32, otherwise: u32, bytes: usize) {
+    io::print_decimal(1, other_lift as u64);
+    io::write_all(1, b" give the same list for another lift\n");
     io::print_decimal(1, 8 * (bytes as u64 % 4294967296));
     io::write_all(1, b" flips, ");
-    io::print_decimal(1, counts[0] as u64);
-    io::write_all(1, b" accepted\n");
+    io::print_decimal(1, otherwise as u64);
+    io::write_all(1, b" accepted otherwise\n");
+}
+
+fn say_survey(survey: Survey, bytes: usize) {
+    say_questions(survey);
+    let counts = survey.counts;
+    say_totals(counts[OTHER_LIFT], counts[0], bytes);
 }
 
 // The survey of an image, or the number that refuses it.
@@ -117,7 +175,9 @@ fn say(image: &mut [u8]) {
         io::write_all(1, b"\n");
         return;
     }
-    say_survey(survey_bytes(image, bytes), bytes);
+    let mut text = [0u8; 73745];
+    let size = report::report(image, &mut text);
+    say_survey(survey_bytes(image, &text[0..size], bytes), bytes);
 }
 
 fn main() {

@@ -2,7 +2,7 @@
 -- Assumes nothing.
 use mathlib.Core.Path.{_≡_, refl, sym, ap, ap₂, _∙_}
 use mathlib.Core.List.{List, [], _∷_, _++_, map, flatMap, append-assoc}
-use Prim.Native.Nat.{ℕ, zero, suc, _+_, _-_, _*_, _≤_}
+use Prim.Native.Nat.{ℕ, zero, suc, _+_, _-_, _*_, _/_, _%_, _≤_, _<_}
 use native.Mathlib.Nat.{add-zero}
 use native.Mathlib.Numerals.{add-one}
 use native.Mathlib.Omega.{arith}
@@ -13,16 +13,16 @@ use lib.Seq.{take-add, drop-drop, take-all, take-at, drop-at, length-take-le}
 use Rattle.format.specs.Seq.{All, numbersFrom, total}
 use Rattle.format.specs.Trie.{below, descend, levelsOf, levelsOver, nodesOver, onBits, parents}
 use Rattle.format.specs.Page.{Byte, numberAt, twoBytes}
-use Rattle.format.specs.Header.{header, headerEnd, headerStart, mark}
-use Rattle.format.specs.Image.{bandLevels, bands, imageLevels, keyCount, keysOf, pageCount, pageNumber, pagesBefore, rootCount}
+use Rattle.format.specs.Header.{header, headerEnd, headerStart, mark, versionFor}
+use Rattle.format.specs.Image.{bandLevels, bands, imageLevels, keyCount, keysOf, liftOf, pageCount, pageNumber, pagesBefore, rootCount, versionOf}
 use Rattle.format.specs.Question.{outLinksDue}
 use Rattle.format.specs.Writer.{bandBytes, bandCounts, bandsIn, bandsOf, imageOf, pagesOf}
-use Rattle.format.proofs.Lists.{all-numbers, length-numbers, length-flatMap, flatMap-map, numbers-split, total-append}
+use Rattle.format.proofs.Lists.{all-get, all-numbers, length-numbers, length-flatMap, flatMap-map, numbers-split, total-append}
 use Rattle.format.proofs.Trie.{Shape, levels-back}
 use Rattle.format.proofs.Shapes.{lastOn, lastOn-append, shape-append, Keys, descend-keys}
 use Rattle.format.proofs.Bytes.{twoBytes-back, zeros-are}
 use Rattle.format.proofs.HeaderBytes.{count-bytes, countBytes}
-use Rattle.format.proofs.Checked.{Counts, no-keys, some-keys, Checked, cond-yes, cond-no}
+use Rattle.format.proofs.Checked.{Counts, no-keys, some-keys, Checked, cond-yes, cond-no, lift-is}
 use Rattle.format.proofs.Read.{band-four, band-roots, band-shape, band-last, band-bytes, band-page-count}
 
 -- ---- bands out of a row of levels
@@ -144,12 +144,13 @@ module _ (img : List ℕ) (a : All Byte img) (c : Checked img) where
 
   -- ---- the header
 
-  start : take 6 img ≡ headerStart
-  unfolding headerStart mark twoBytes numberAt
+  start : take 6 img ≡ headerStart (numberAt img 40)
+  unfolding headerStart mark versionOf numberAt twoBytes
   start =
       let h = c .header in
-      let x : getD img 3 0 ≡ 0 = omega (arith, h .version) in
-      let y : getD img 4 0 ≡ 1 = omega (arith, h .version) in
+      let small : getD img 4 0 < 256 = all-get Byte img 4 0 (omega arith) a in
+      let x : getD img 3 0 ≡ versionFor (numberAt img 40) / 256 = omega (arith, h .version) in
+      let y : getD img 4 0 ≡ versionFor (numberAt img 40) % 256 = omega (arith, h .version) in
       first-six img (omega (arith, h .long)) ∙ (λ i. h .marked 0 (omega arith) i ∷ h .marked 1 (omega arith) i ∷ h .marked 2 (omega arith) i ∷ x i ∷ y i ∷ h .five i ∷ [])
 
   counts-at : (b : ℕ) → 1 ≤ b → b ≤ 8 → countBytes (bandLevels img b) ≡ take 4 (drop (4 + 4 * b) img)
@@ -172,13 +173,15 @@ module _ (img : List ℕ) (a : All Byte img) (c : Checked img) where
       ∙ take-add 4 (4 * n) (drop (4 + 4 * b) img)
       ∙ ap (λ (l : List ℕ). take 4 (drop (4 + 4 * b) img) ++ take (4 * n) l) (drop-drop 4 (4 + 4 * b) img ∙ ap (λ (k : ℕ). drop k img) next))
 
-  pub header-back : header (keyCount img) (flatMap bandCounts (map (bandLevels img) bands)) ≡ take 64 img
+  pub header-back : header (numberAt img 40) (keyCount img) (flatMap bandCounts (map (bandLevels img) bands)) ≡ take 64 img
   unfolding header headerEnd keyCount bands
   header-back =
       let h = c .header in
       let long = h .long in
-      let end : headerEnd ≡ take 24 (drop 40 img) = sym (zeros-are (take 24 (drop 40 img)) (h .tail) ∙ ap (λ (n : ℕ). replicate n 0) (length-take-le 24 (drop 40 img) (omega (arith, length-drop 40 img)))) in
-      let eight : headerStart ++ twoBytes (numberAt img 6) ≡ take 8 img = ap₂ _++_ (sym start) (twoBytes-back img 6 (omega arith) a) ∙ sym (take-add 6 2 img) in
+      let zeros : replicate 22 0 ≡ take 22 (drop 42 img) = sym (zeros-are (take 22 (drop 42 img)) (h .tail) ∙ ap (λ (n : ℕ). replicate n 0) (length-take-le 22 (drop 42 img) (omega (arith, length-drop 42 img)))) in
+      let end : headerEnd (numberAt img 40) ≡ take 24 (drop 40 img) =
+      ap₂ _++_ (twoBytes-back img 40 (omega arith) a) zeros ∙ sym (take-add 2 22 (drop 40 img) ∙ ap (λ (l : List ℕ). take 2 (drop 40 img) ++ take 22 l) (drop-drop 2 40 img)) in
+      let eight : headerStart (numberAt img 40) ++ twoBytes (numberAt img 6) ≡ take 8 img = ap₂ _++_ (sym start) (twoBytes-back img 6 (omega arith) a) ∙ sym (take-add 6 2 img) in
       let counts : flatMap twoBytes (flatMap bandCounts (map (bandLevels img) (numbersFrom 1 8))) ≡ take 32 (drop 8 img) =
       count-bytes (map (bandLevels img) (numbersFrom 1 8)) ∙ all-counts 1 8 (omega arith) (omega arith) in
       (λ i. eight i ++ counts i ++ end i)
@@ -211,9 +214,10 @@ module _ (img : List ℕ) (a : All Byte img) (c : Checked img) where
 
   -- ---- all
 
-  pub image-back : imageOf (keysOf img) ≡ img
+  pub image-back : imageOf (liftOf img) (keysOf img) ≡ img
   unfolding imageOf
   image-back =
-      ap₂ (λ (n : ℕ) (bs : List (List (List ℕ))). header n (flatMap bandCounts bs) ++ flatMap (λ band. bandBytes 0 0 (pagesOf band)) bs) (listed .keys .count-is) bands-of
+      ap (λ (lift : ℕ). imageOf lift (keysOf img)) (lift-is img (c .header))
+      ∙ ap₂ (λ (n : ℕ) (bs : List (List (List ℕ))). header (numberAt img 40) n (flatMap bandCounts bs) ++ flatMap (λ band. bandBytes 0 0 (pagesOf band)) bs) (listed .keys .count-is) bands-of
       ∙ ap₂ _++_ header-back pages-back
       ∙ take-append-drop 64 img

@@ -13,7 +13,7 @@ use Rattle.format.specs.Seq.{numbersFrom, total}
 use Rattle.format.specs.Key.{woven}
 use Rattle.format.specs.Trie.{levelsOf, onBits}
 use Rattle.format.specs.Page.{firstSubtries, nodeCount}
-use Rattle.format.specs.Image.{bandLevels, bands, keysOf, pageCount}
+use Rattle.format.specs.Image.{bandLevels, bands, keysOf, liftOf, pageCount}
 use Rattle.format.specs.Question.{Yes}
 use Rattle.format.specs.Writer.{ascending, bandsOf, imageOf, pagesOf, roomQuestion, rootsIn}
 use Rattle.format.specs.Exact.{Accepted, WriterAccepts}
@@ -107,8 +107,8 @@ module _ (n : ℕ) (band : ℕ → List (List ℕ)) (h : Bands n band) where
         pages-later 8 (omega arith) (omega arith),
       )
 
-  bands-bounded : Bounded (λ b. length (pagesOf (band b))) (length (bytesOf n band))
-  bands-bounded = record { band-1 = pages-1; band-2 = pages-2; band-3 = pages-3; later-bands = pages-later; all-bands = pages-all; size = omega (arith, parts n band .size, pages-all) }
+  bands-bounded : (lift : ℕ) → Bounded (λ b. length (pagesOf (band b))) (length (bytesOf lift n band))
+  bands-bounded lift = record { band-1 = pages-1; band-2 = pages-2; band-3 = pages-3; later-bands = pages-later; all-bands = pages-all; size = omega (arith, parts lift n band .size, pages-all) }
 
 -- ---- the same counts by another name
 
@@ -145,29 +145,29 @@ pages-summed keys =
 
 -- ---- of a list, and of an accepted image
 
-list-bounded : (keys : List ℕ) → Fits 32 keys → length keys ≤ 4096 → ascending keys ≡ true → Bounded (pagesNeeded keys) (length (imageOf keys))
-list-bounded keys fits few asc =
+list-bounded : (lift : ℕ) (keys : List ℕ) → Fits 32 keys → length keys ≤ 4096 → ascending keys ≡ true → Bounded (pagesNeeded keys) (length (imageOf lift keys))
+list-bounded lift keys fits few asc =
     let band = bandAt (levelsOf keys) in
-    same-bounded (λ b. length (pagesOf (band b))) (pagesNeeded keys) (length (bytesOf (length keys) band)) (length (imageOf keys))
+    same-bounded (λ b. length (pagesOf (band b))) (pagesNeeded keys) (length (bytesOf lift (length keys) band)) (length (imageOf lift keys))
     (λ b lo hi. sym (pages-needed keys band (bandsOf-row keys) b lo hi))
-    (ap length (sym (image-bytes keys)))
-    (bands-bounded (length keys) band (key-bands keys (of-ascending keys asc) fits few))
+    (ap length (sym (image-bytes lift keys)))
+    (bands-bounded (length keys) band (key-bands keys (of-ascending keys asc) fits few) lift)
 
 image-bounded : (img : List ℕ) → Accepted img → Bounded (pageCount img) (length img)
 image-bounded img a =
     let f = facts img a in
     let k = f .keys in
-    same-bounded (pagesNeeded (keysOf img)) (pageCount img) (length (imageOf (keysOf img))) (length img)
+    same-bounded (pagesNeeded (keysOf img)) (pageCount img) (length (imageOf (liftOf img) (keysOf img))) (length img)
     (λ b lo hi. pages-needed (keysOf img) (bandLevels img) (bands-of img (a .bytes) (f .questions)) b lo hi ∙ band-page-count img (a .bytes) (f .questions) b lo hi)
     (ap length (f .back))
-    (list-bounded (keysOf img) (k .fits) (omega (arith, k .count-is, f .few)) (ascending-of (keysOf img) (k .asc)))
+    (list-bounded (liftOf img) (keysOf img) (k .fits) (omega (arith, k .count-is, f .few)) (ascending-of (keysOf img) (k .asc)))
 
-enough-room : (list : List (ℕ × ℕ)) → WriterAccepts list → (buffer : List ℕ) → 24640 ≤ length buffer → Yes (roomQuestion (woven list) buffer)
+enough-room : (lift : ℕ) (list : List (ℕ × ℕ)) → WriterAccepts list → (buffer : List ℕ) → 24640 ≤ length buffer → Yes (roomQuestion lift (woven list) buffer)
 unfolding roomQuestion
-enough-room list w buffer h =
+enough-room lift list w buffer h =
     let q = of-writable (woven list) w in
-    let k = list-bounded (woven list) (woven-fits list) (q .0) (q .1) in
-    le-leb (length (imageOf (woven list))) (length buffer) (omega (arith, k .size))
+    let k = list-bounded lift (woven list) (woven-fits list) (q .0) (q .1) in
+    le-leb (length (imageOf lift (woven list))) (length buffer) (omega (arith, k .size))
 
 pub page-bound : PageBound
 page-bound = record { of-list = list-bounded; of-image = image-bounded; room = enough-room }

@@ -1,7 +1,7 @@
--- Questions 1 to 13 as facts: an image gets a yes throughout exactly when it has them.
+-- Questions 1 to 13, with 35, as facts: an image gets a yes throughout exactly when it has them.
 -- Assumes nothing.
-use mathlib.Core.Path.{_≡_, refl, sym, _∙_}
-use mathlib.Core.Bool.{Bool, true, false, _&&_, cond}
+use mathlib.Core.Path.{_≡_, refl, sym, ap, _∙_}
+use mathlib.Core.Bool.{Bool, true, false, _&&_, _||_, cond}
 use mathlib.Core.Option.{none}
 use mathlib.Core.List.{List, _++_, map, flatMap}
 use Prim.Native.Nat.{ℕ, zero, suc, _+_, _*_, _≤_, _<_}
@@ -12,18 +12,19 @@ use borrow.Author.Tests.{eqb-true, leb-true, ltb-true, eq-eqb, ne-eqb, le-leb, l
 use lib.ListN.{length, getD, take, drop}
 use Rattle.format.specs.Seq.{All, every, numbersFrom, total, upTo}
 use Rattle.format.specs.Page.{firstSubtries, nodeCount, numberAt}
-use Rattle.format.specs.Header.{mark}
-use Rattle.format.specs.Image.{bands, keyCount, outLinkCount, pageB, pageCount, pageLevels, pageNodes, pagePairs, pageRoots, pageT, rootCount}
-use Rattle.format.specs.Question.{Yes, bandQuestions, countsFit, firstNo, headRight, headerQuestions, imageQuestions, isPositive, isZero, markRight, outLinksDue, pageNeeded, pageQuestions}
-use Rattle.format.proofs.Lists.{and-left, and-right, and-both, all-append, all-left, all-right, all-flatMap, flatMap-all, all-upTo, upTo-all, all-numbers, numbers-all, every-all, all-every}
+use Rattle.format.specs.Header.{mark, versionFor}
+use Rattle.format.specs.Image.{bands, keyCount, liftOf, outLinkCount, pageB, pageCount, pageLevels, pageNodes, pagePairs, pageRoots, pageT, rootCount, versionOf}
+use Rattle.format.specs.Question.{Yes, bandQuestions, countsFit, firstNo, headRight, headerQuestions, imageQuestions, isLift, isPositive, isZero, liftRight, markRight, outLinksDue, pageNeeded, pageQuestions, versionKnown, zerosRight}
+use Rattle.format.proofs.Lists.{and-left, and-right, and-both, or-first, or-second, or-rest, all-append, all-left, all-right, all-flatMap, flatMap-all, all-upTo, upTo-all, all-numbers, numbers-all, every-all, all-every}
 use Rattle.format.proofs.Questions.{yes-of-none, none-of-yes}
 use Rattle.format.proofs.Bytes.{all-zero, zero-all}
+use Rattle.format.proofs.HeaderBytes.{version-some}
 
--- 1 to 13 all get a yes
+-- 1 to 13, with 35, all get a yes
 abbrev pub AllYes : List ℕ → Type 0
 AllYes img = firstNo (imageQuestions img) ≡ none
 
--- ---- 1 to 7
+-- ---- 1 to 7 and 35
 
 -- 7
 pub data Counts (img : List ℕ) : Type 0 where
@@ -33,10 +34,11 @@ pub data Counts (img : List ℕ) : Type 0 where
 pub record Header (img : List ℕ) : Type 0 where
   pub long : 64 ≤ length img
   pub marked : (i : ℕ) → i < 3 → getD img i 0 ≡ getD mark i 0
-  pub version : numberAt img 3 ≡ 1
+  pub version : versionOf img ≡ versionFor (numberAt img 40)
+  pub lift : numberAt img 40 ≤ 999
   pub few : keyCount img ≤ 4096
   pub five : getD img 5 0 ≡ 0
-  pub tail : All (λ z. z ≡ 0) (take 24 (drop 40 img))
+  pub tail : All (λ z. z ≡ 0) (take 22 (drop 42 img))
   pub size : length img ≡ 64 * (1 + total (map (pageCount img) bands))
   pub counts : Counts img
 
@@ -89,38 +91,91 @@ of-counts img (some-keys h p r f) =
     ∙ and-both (and-both (eq-eqb (pageCount img 1) 1 p) (eq-eqb (rootCount img 1) 1 r))
     (all-every (allSome img) (numbersFrom 2 7) (all-numbers (λ b. allSome img b ≡ true) 2 7 (λ b lo hi. and-both (le-leb 1 (pageCount img b) (f b lo (omega arith) .0)) (le-leb 1 (rootCount img b) (f b lo (omega arith) .1)))))
 
+-- 3, 35, and 5 of the lift's bytes: version 1 and 0, or version 2 and 1 to 999
+abbrev VersionFits : ℕ → ℕ → ℕ → Type 0
+VersionFits v n l = (eqb v 1 || eqb v 2 ≡ true) × (eqb v 2 || eqb n 0 ≡ true) × (eqb v 1 || isLift l ≡ true)
+
+version-of : (v n l : ℕ) → l ≡ cond (eqb v 1) 0 n → VersionFits v n l → (v ≡ versionFor n) × (n ≤ 999)
+unfolding isLift versionFor
+version-of v n l e (three, five, asked) =
+    elim (ℕ-discrete v 1) [
+      | yes d ↦ let z : n ≡ 0 = eqb-true n 0 (or-rest (eqb v 2) (eqb n 0) five (ne-eqb v 2 (λ f. omega arith))) in (d ∙ sym (ap versionFor z), omega arith)
+      | no d ↦ let is : l ≡ n = e ∙ cond-no (eqb v 1) 0 n (ne-eqb v 1 d) in
+          let k : leb 1 l && leb l 999 ≡ true = or-rest (eqb v 1) (leb 1 l && leb l 999) asked (ne-eqb v 1 d) in
+          let lo = leb-true 1 l (and-left (leb 1 l) (leb l 999) k) in
+          let hi = leb-true l 999 (and-right (leb 1 l) (leb l 999) k) in
+          (eqb-true v 2 (or-rest (eqb v 1) (eqb v 2) three (ne-eqb v 1 d)) ∙ sym (version-some n (omega arith)), omega arith)
+    ]
+
+of-version : (v n l : ℕ) → l ≡ cond (eqb v 1) 0 n → v ≡ versionFor n → n ≤ 999 → VersionFits v n l
+unfolding isLift versionFor
+of-version v zero l e d h =
+    let one = eq-eqb v 1 d in (or-first (eqb v 1) (eqb v 2) one, or-second (eqb v 2) (eqb 0 0) refl, or-first (eqb v 1) (leb 1 l && leb l 999) one)
+of-version v (suc n) l e d h =
+    let two = eq-eqb v 2 d in
+    let is : l ≡ suc n = e ∙ cond-no (eqb v 1) 0 (suc n) (ne-eqb v 1 (λ f. omega arith)) in
+    (or-second (eqb v 1) (eqb v 2) two, or-first (eqb v 2) (eqb (suc n) 0) two, or-second (eqb v 1) (leb 1 l && leb l 999) (and-both (le-leb 1 l (omega arith)) (le-leb l 999 (omega arith))))
+
+-- version 1 counts as lift 0, and the lift is the number at byte 40 in either
+pub no-lift : (img : List ℕ) → versionOf img ≡ 1 → liftOf img ≡ 0
+unfolding liftOf
+no-lift img e = cond-yes (eqb (versionOf img) 1) 0 (numberAt img 40) (eq-eqb (versionOf img) 1 e)
+
+pub lift-is : (img : List ℕ) → Header img → liftOf img ≡ numberAt img 40
+unfolding liftOf
+lift-is img h = go (numberAt img 40) (h .version)
+  where
+    go : (n : ℕ) → versionOf img ≡ versionFor n → cond (eqb (versionOf img) 1) 0 n ≡ n
+    go zero e = cond-yes (eqb (versionOf img) 1) 0 0 (eq-eqb (versionOf img) 1 (e ∙ (unfold versionFor in refl)))
+    go (suc n) e = cond-no (eqb (versionOf img) 1) 0 (suc n) (ne-eqb (versionOf img) 1 (λ d. let two : versionOf img ≡ 2 = e ∙ (unfold versionFor in refl) in omega arith))
+
+-- 2
 abbrev markAt : List ℕ → ℕ → Bool
 markAt img i = eqb (getD img i 0) (getD mark i 0)
 
+pub mark-right : (img : List ℕ) → ((i : ℕ) → i < 3 → getD img i 0 ≡ getD mark i 0) → markRight img ≡ true
+unfolding markRight
+mark-right img h = all-every (markAt img) (upTo 3) (all-upTo (λ i. markAt img i ≡ true) 3 (λ i l. eq-eqb (getD img i 0) (getD mark i 0) (h i l)))
+
 header-of : (img : List ℕ) → All Yes (headerQuestions img) → Header img
-unfolding headerQuestions markRight isZero
+unfolding headerQuestions markRight versionKnown zerosRight liftRight isZero
 header-of img h =
+    let free = eqb (versionOf img) 2 || eqb (numberAt img 40) 0 in
+    let zeros = every isZero (take 22 (drop 42 img)) in
+    let z = h .1 .1 .1 .1 .0 in
+    let z₀₁ = and-left (eqb (getD img 5 0) 0 && free) zeros z in
+    let v = version-of (versionOf img) (numberAt img 40) (liftOf img) (unfold liftOf in refl) (h .1 .1 .0, and-right (eqb (getD img 5 0) 0) free z₀₁, h .1 .1 .1 .1 .1 .0) in
     record {
       long = leb-true 64 (length img) (h .0);
       marked = λ i l. eqb-true (getD img i 0) (getD mark i 0) (upTo-all (λ i. markAt img i ≡ true) 3 (every-all (markAt img) (upTo 3) (h .1 .0)) i l);
-      version = eqb-true (numberAt img 3) 1 (h .1 .1 .0);
+      version = v .0;
+      lift = v .1;
       few = leb-true (keyCount img) 4096 (h .1 .1 .1 .0);
-      five = eqb-true (getD img 5 0) 0 (and-left (eqb (getD img 5 0) 0) (every isZero (take 24 (drop 40 img))) (h .1 .1 .1 .1 .0));
-      tail = all-zero (take 24 (drop 40 img)) (and-right (eqb (getD img 5 0) 0) (every isZero (take 24 (drop 40 img))) (h .1 .1 .1 .1 .0));
-      size = eqb-true (length img) _ (h .1 .1 .1 .1 .1 .0);
-      counts = counts-of img (h .1 .1 .1 .1 .1 .1 .0);
+      five = eqb-true (getD img 5 0) 0 (and-left (eqb (getD img 5 0) 0) free z₀₁);
+      tail = all-zero (take 22 (drop 42 img)) (and-right (eqb (getD img 5 0) 0 && free) zeros z);
+      size = eqb-true (length img) _ (h .1 .1 .1 .1 .1 .1 .0);
+      counts = counts-of img (h .1 .1 .1 .1 .1 .1 .1 .0);
     }
 
 of-header : (img : List ℕ) → Header img → All Yes (headerQuestions img)
-unfolding headerQuestions markRight isZero
-of-header img h = (
-  le-leb 64 (length img) (h .long),
-  (
-    all-every (markAt img) (upTo 3) (all-upTo (λ i. markAt img i ≡ true) 3 (λ i l. eq-eqb (getD img i 0) (getD mark i 0) (h .marked i l))),
-    (
-      eq-eqb (numberAt img 3) 1 (h .version),
+unfolding headerQuestions markRight versionKnown zerosRight liftRight isZero
+of-header img h =
+    let v = of-version (versionOf img) (numberAt img 40) (liftOf img) (unfold liftOf in refl) (h .version) (h .lift) in (
+      le-leb 64 (length img) (h .long),
       (
-        le-leb (keyCount img) 4096 (h .few),
-        (and-both (eq-eqb (getD img 5 0) 0 (h .five)) (zero-all (take 24 (drop 40 img)) (h .tail)), (eq-eqb (length img) _ (h .size), (of-counts img (h .counts), tt))),
+        mark-right img (h .marked),
+        (
+          v .0,
+          (
+            le-leb (keyCount img) 4096 (h .few),
+            (
+              and-both (and-both (eq-eqb (getD img 5 0) 0 (h .five)) (v .1)) (zero-all (take 22 (drop 42 img)) (h .tail)),
+              (v .2, (eq-eqb (length img) _ (h .size), (of-counts img (h .counts), tt))),
+            ),
+          ),
+        ),
       ),
-    ),
-  ),
-)
+    )
 
 -- ---- 8 to 12
 

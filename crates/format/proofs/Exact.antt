@@ -1,28 +1,32 @@
--- Demand 3: there is one image per list. The statement is specs/Exact.antt.
+-- Demand 3: there is one image per list, version and lift. The statement is specs/Exact.antt.
 -- Assumes nothing.
-use mathlib.Core.Path.{_≡_, refl, sym, ap, _∙_, subst}
+use mathlib.Core.Path.{_≡_, refl, sym, ap, ap₂, _∙_, subst}
+use mathlib.Core.Logic.{_⊎_, inl, inr}
 use mathlib.Core.Bool.{true}
 use mathlib.Core.Option.{Option, none}
-use mathlib.Core.List.{List, [], _∷_, List·Memᴰ, Memᴰ·cast}
-use Prim.Native.Nat.{ℕ}
+use mathlib.Core.List.{List, [], _∷_, _++_, List·Memᴰ, Memᴰ·cast}
+use Prim.Native.Nat.{ℕ, zero, suc, _≤_}
 use native.Mathlib.Omega.{arith}
 use lib.ListN.{length, take, drop}
 use lib.Seq.{take-append-seam}
 use Rattle.format.specs.declared.Rectangle.{Rectangle}
 use Rattle.format.specs.Seq.{All, select}
 use Rattle.format.specs.Key.{Admissible, holderOf, keyOf, slotOf, unwoven, woven}
-use Rattle.format.specs.Image.{keysOf, listOf}
-use Rattle.format.specs.Question.{Outcome, Yes, filled, firstNo, imageQuestions, outcome, returns, settle}
-use Rattle.format.specs.Writer.{bufferAfterWrite, bufferAfterWriteKeys, imageOf, listQuestions, roomQuestion, write, writeKeys}
+use Rattle.format.specs.Image.{keysOf, liftOf, listOf, versionOf}
+use Rattle.format.specs.Header.{versionFor}
+use Rattle.format.specs.Question.{Outcome, Question, Yes, filled, firstNo, imageQuestions, outcome, returns, settle}
+use Rattle.format.specs.Writer.{bufferAfterWrite, bufferAfterWriteKeys, imageOf, liftQuestion, listQuestions, roomQuestion, write, writeKeys}
 use Rattle.format.specs.Answer.{bufferAfterListing, contains, inside, listing, memberKeys, placesQuestion, rectangleQuestion}
-use Rattle.format.specs.Exact.{AgreeOn, Exact, FilledIn, InOrder, ListedAlike, LongEnough, wholeSquare}
-use Rattle.format.proofs.Lists.{and-both}
-use Rattle.format.proofs.Questions.{none-of-yes, after-yes}
-use Rattle.format.proofs.Jobs.{of-writable}
+use Rattle.format.specs.Exact.{Accepted, AgreeOn, Exact, FilledIn, InOrder, IsImage, LiftNumber, ListedAlike, LongEnough, OneOfEach, WriterAccepts, wholeSquare}
+use Rattle.format.proofs.Lists.{all-append, and-both}
+use Rattle.format.proofs.Questions.{yes-of-none, none-of-yes, after-yes}
+use Rattle.format.proofs.Jobs.{lift-of, of-lift, of-writable}
 use Rattle.format.proofs.Trie.{Fits}
 use Rattle.format.proofs.Keys.{holderOf-keyOf, slotOf-keyOf, keyOf-back, holderOf-small, slotOf-small}
 use Rattle.format.proofs.Members.{all-mem, Within, asc-same, of-ascending, fits-mem, select-asc, mem-select, select-mem, select-all, woven-back, unwoven-back, woven-fits, unwoven-small, mem-unwoven, unwoven-mem}
 use Rattle.format.proofs.Cells.{within-range}
+use Rattle.format.proofs.HeaderBytes.{version-some}
+use Rattle.format.proofs.Checked.{no-lift}
 use Rattle.format.proofs.Forth.{imaged}
 use Rattle.format.proofs.Accepted.{Facts, facts, returned-of-yes}
 
@@ -112,29 +116,78 @@ whole-members img =
 
 -- ---- the writer
 
-pub write-is : (keys buffer : List ℕ) → firstNo (listQuestions keys) ≡ none → Yes (roomQuestion keys buffer) → writeKeys keys buffer ≡ returns (length (imageOf keys))
-unfolding writeKeys settle
-write-is keys buffer e room =
-    ap (λ (o : Option ℕ). outcome o (length (imageOf keys))) (after-yes (listQuestions keys) _ e ∙ none-of-yes (roomQuestion keys buffer ∷ []) (room, tt)) ∙ (unfold outcome in refl)
+-- writing where the question of the lift, 14, 15 and 17 get a yes
+module _ (asked : Question) (lift : ℕ) (keys buffer : List ℕ) (first : Yes asked) (e : firstNo (listQuestions keys) ≡ none) (room : Yes (roomQuestion lift keys buffer)) where
+  pub write-is : writeKeys asked lift keys buffer ≡ returns (length (imageOf lift keys))
+  unfolding writeKeys settle
+  write-is =
+      ap (λ (o : Option ℕ). outcome o (length (imageOf lift keys))) (none-of-yes (asked ∷ listQuestions keys ++ roomQuestion lift keys buffer ∷ []) (first, all-append Yes (listQuestions keys) _ (yes-of-none (listQuestions keys) e) (room, tt)))
+      ∙ (unfold outcome in refl)
 
-written-bytes : (keys buffer : List ℕ) → firstNo (listQuestions keys) ≡ none → Yes (roomQuestion keys buffer) → take (length (imageOf keys)) (bufferAfterWriteKeys keys buffer) ≡ imageOf keys
-unfolding bufferAfterWriteKeys
-written-bytes keys buffer e room =
-    ap (λ (o : Outcome ℕ). take (length (imageOf keys)) (filled o (imageOf keys) buffer)) (write-is keys buffer e room)
-    ∙ (unfold filled in take-append-seam (imageOf keys) (drop (length (imageOf keys)) buffer))
+  written-bytes : take (length (imageOf lift keys)) (bufferAfterWriteKeys asked lift keys buffer) ≡ imageOf lift keys
+  unfolding bufferAfterWriteKeys
+  written-bytes =
+      ap (λ (o : Outcome ℕ). take (length (imageOf lift keys)) (filled o (imageOf lift keys) buffer)) write-is
+      ∙ (unfold filled in take-append-seam (imageOf lift keys) (drop (length (imageOf lift keys)) buffer))
 
-filled-in : (list : List (ℕ × ℕ)) → All Admissible list → firstNo (listQuestions (woven list)) ≡ none → (buffer : List ℕ) → Yes (roomQuestion (woven list) buffer) → FilledIn list buffer
-unfolding listOf write bufferAfterWrite
-filled-in list ad w buffer room =
+-- the image of a list that the writer accepts, for each lift from 0 to 999
+record ImageFor (lift : ℕ) (list : List (ℕ × ℕ)) (img : List ℕ) : Type 0 where
+  image : IsImage list img
+  version-is : versionOf img ≡ versionFor lift
+  lift-is : liftOf img ≡ lift
+
+image-for : (lift : ℕ) (list : List (ℕ × ℕ)) → lift ≤ 999 → All Admissible list → WriterAccepts list → ImageFor lift list (imageOf lift (woven list))
+unfolding listOf
+image-for lift list small ad w =
     let q = of-writable (woven list) w in
-    let i = imaged (woven list) (of-ascending (woven list) (q .1)) (woven-fits list) (q .0) in
-    let e = written-bytes (woven list) buffer w room in
+    let i = imaged lift (woven list) small (of-ascending (woven list) (q .1)) (woven-fits list) (q .0) in
     record {
-      size = length (imageOf (woven list));
-      returned = write-is (woven list) buffer w room;
-      accepted = rw e (record { bytes = i .bytes; returned = returned-of-yes _ (i .is-accepted) });
-      its-list = ap listOf e ∙ ap unwoven (i .list) ∙ unwoven-back list ad;
+      image = record { accepted = record { bytes = i .bytes; returned = returned-of-yes _ (i .is-accepted) }; its-list = ap unwoven (i .list) ∙ unwoven-back list ad };
+      version-is = i .version;
+      lift-is = i .its-lift;
     }
+
+filled-in : (lift : ℕ) → LiftNumber lift → (list : List (ℕ × ℕ)) → All Admissible list → WriterAccepts list → (buffer : List ℕ) → Yes (roomQuestion lift (woven list) buffer) → FilledIn lift list buffer
+unfolding write bufferAfterWrite
+filled-in lift number list ad w buffer room =
+    let l = lift-of lift number in
+    let i = image-for lift list (l .1) ad w in
+    let e = written-bytes (liftQuestion lift) lift (woven list) buffer number w room in
+    record {
+      size = length (imageOf lift (woven list));
+      returned = write-is (liftQuestion lift) lift (woven list) buffer number w room;
+      image = rw e (i .image);
+      its-version = ap versionOf e ∙ i .version-is ∙ version-some lift (l .0);
+      its-lift = ap liftOf e ∙ i .lift-is;
+    }
+
+-- an accepted image by its lift and its list
+image-of : (img : List ℕ) → Accepted img → imageOf (liftOf img) (woven (listOf img)) ≡ img
+unfolding listOf
+image-of img i = let f = facts img i in ap (imageOf (liftOf img)) (woven-back (keysOf img) (f .keys .fits)) ∙ f .back
+
+-- and so any two with the same list and lift
+only : (lift : ℕ) (list : List (ℕ × ℕ)) (img : List ℕ) → IsImage list img → liftOf img ≡ lift → img ≡ imageOf lift (woven list)
+only lift list img i e = sym (image-of img (i .accepted)) ∙ ap₂ (λ (n : ℕ) (l : List (ℕ × ℕ)). imageOf n (woven l)) e (i .its-list)
+
+one-of-each : (list : List (ℕ × ℕ)) → All Admissible list → WriterAccepts list → OneOfEach list
+one-of-each list ad w =
+    record {
+      for-lift = λ lift number.
+          let i = image-for lift list (lift-of lift number .1) ad w in
+          record { the = imageOf lift (woven list); exists = (i .image, i .lift-is); unique = λ img k. only lift list img (k .0) (k .1) };
+      in-version-1 =
+          let i = image-for 0 list (omega arith) ad w in
+          record { the = imageOf 0 (woven list); exists = (i .image, i .version-is ∙ (unfold versionFor in refl)); unique = λ img k. only 0 list img (k .0) (no-lift img (k .1)) };
+    }
+
+-- what an accepted image's version and lift can be
+pub kind-of : (img : List ℕ) → Facts img → ((versionOf img ≡ 1) × (liftOf img ≡ 0)) ⊎ ((versionOf img ≡ 2) × LiftNumber (liftOf img))
+kind-of img f = go (liftOf img) refl (f .version) (f .lift)
+  where
+    go : (n : ℕ) → liftOf img ≡ n → versionOf img ≡ versionFor n → n ≤ 999 → ((versionOf img ≡ 1) × (liftOf img ≡ 0)) ⊎ ((versionOf img ≡ 2) × LiftNumber (liftOf img))
+    go zero e v h = inl (v ∙ (unfold versionFor in refl), e)
+    go (suc n) e v h = inr (v ∙ (unfold versionFor in refl), rw e (of-lift (suc n) (omega arith) h))
 
 -- ---- demand 3
 
@@ -153,10 +206,11 @@ exact =
           let fa = facts a ia in
           let fb = facts b ib in
           let order : InOrder wholeSquare = unfold rectangleQuestion in refl in (
-            λ l. sym (fa .back) ∙ ap imageOf (sym (whole-members a) ∙ alike-members a b fa fb wholeSquare order buffer buffer′ room room′ l ∙ whole-members b) ∙ fb .back,
-            λ e. members-alike a b fa fb wholeSquare order buffer buffer′ room room′ (ap (λ (i : List ℕ). memberKeys i wholeSquare) e),
+            λ s. sym (fa .back) ∙ ap₂ imageOf (s .2) (sym (whole-members a) ∙ alike-members a b fa fb wholeSquare order buffer buffer′ room room′ (s .0) ∙ whole-members b) ∙ fb .back,
+            λ e. (members-alike a b fa fb wholeSquare order buffer buffer′ room room′ (ap (λ (i : List ℕ). memberKeys i wholeSquare) e), ap versionOf e, ap liftOf e),
           );
       written = filled-in;
-      one = λ img i list e. let f = facts img i in ap (λ (l : List (ℕ × ℕ)). imageOf (woven l)) (sym e) ∙ ap imageOf (woven-back (keysOf img) (f .keys .fits)) ∙ f .back;
-      nothing-else = λ img i. let f = facts img i in (unwoven-small (keysOf img), rw (woven-back (keysOf img) (f .keys .fits)) (f .writable));
+      given = image-of;
+      one = one-of-each;
+      nothing-else = λ img i. let f = facts img i in (unwoven-small (keysOf img), rw (woven-back (keysOf img) (f .keys .fits)) (f .writable), kind-of img f);
     }

@@ -1,4 +1,4 @@
--- The image of a list of keys is accepted, and its list is those keys.
+-- The image of a list of keys for a lift is accepted, and its list is those keys.
 -- Assumes nothing.
 use mathlib.Core.Path.{_≡_, refl, sym, ap, ap₂, _∙_, subst}
 use mathlib.Core.List.{List, [], _∷_, _++_, map, flatMap}
@@ -9,15 +9,16 @@ use lib.Seq.{take-add, drop-drop, take-all, length-take-le}
 use Rattle.format.specs.Seq.{All, numbersFrom}
 use Rattle.format.specs.Trie.{below, descend, levelsOf, levelsOver, nodesOver, onBits, parents}
 use Rattle.format.specs.Page.{Byte}
-use Rattle.format.specs.Header.{header}
-use Rattle.format.specs.Image.{bandLevels, bands, imageLevels, keysOf}
+use Rattle.format.specs.Header.{header, versionFor}
+use Rattle.format.specs.Image.{bandLevels, bands, imageLevels, keysOf, liftOf, versionOf}
 use Rattle.format.specs.Writer.{bandBytes, bandCounts, bandsIn, bandsOf, imageOf, pagesOf, rootsIn}
 use Rattle.format.proofs.Lists.{all-numbers, flatMap-same}
 use Rattle.format.proofs.Trie.{Shape, Fits, Asc, levels-spell}
 use Rattle.format.proofs.Shapes.{lastOn, lastOn-append, shape-left, shape-right, levels-formed, length-levelsOver}
 use Rattle.format.proofs.Pages.{shape-roots, lastOn-four}
 use Rattle.format.proofs.Checked.{AllYes, accepted}
-use Rattle.format.proofs.Written.{Top, none, some, Bands, bytesOf, Parts, parts, is-checked, bands-in, all-bytes}
+use Rattle.format.proofs.Written.{Top, none, some, Bands, bytesOf, Parts, parts, is-checked, bands-in, lift-in, version-in}
+use Rattle.format.proofs.WrittenBytes.{all-bytes}
 
 -- band b of a row of levels
 unfoldable pub bandAt : List (List ℕ) → ℕ → List (List ℕ)
@@ -115,9 +116,9 @@ key-bands keys a f few =
     let k = key-levels keys a f in
     row-bands (levelsOf keys) (k .top) (length keys) (unfold levelsOf in length-levelsOver 32 keys) (k .shape) (k .last) few (k .is-top)
 
-pub image-bytes : (keys : List ℕ) → imageOf keys ≡ bytesOf (length keys) (bandAt (levelsOf keys))
+pub image-bytes : (lift : ℕ) (keys : List ℕ) → imageOf lift keys ≡ bytesOf lift (length keys) (bandAt (levelsOf keys))
 unfolding imageOf
-image-bytes keys = ap (λ (bs : List (List (List ℕ))). header (length keys) (flatMap bandCounts bs) ++ flatMap (λ x. bandBytes 0 0 (pagesOf x)) bs) (bandsOf-row keys)
+image-bytes lift keys = ap (λ (bs : List (List (List ℕ))). header lift (length keys) (flatMap bandCounts bs) ++ flatMap (λ x. bandBytes 0 0 (pagesOf x)) bs) (bandsOf-row keys)
 
 levels-found : (img : List ℕ) (levels : List (List ℕ)) → length levels ≡ 32 → ((b : ℕ) → 1 ≤ b → b ≤ 8 → bandLevels img b ≡ bandAt levels b) → imageLevels img ≡ levels
 unfolding imageLevels bands
@@ -130,24 +131,28 @@ keys-found : (img keys : List ℕ) → imageLevels img ≡ levelsOf keys → des
 unfolding keysOf
 keys-found img keys e h = ap (descend (0 ∷ [])) e ∙ h
 
--- Every ascending list of at most 4,096 keys of 32 bits has an accepted image, of bytes, whose list it is.
-pub record Imaged (keys : List ℕ) : Type 0 where
-  pub is-accepted : AllYes (imageOf keys)
-  pub bytes : All Byte (imageOf keys)
-  pub list : keysOf (imageOf keys) ≡ keys
+-- Every ascending list of at most 4,096 keys of 32 bits has, for each lift from 0 to 999, an accepted image, of bytes, whose list it is.
+pub record Imaged (lift : ℕ) (keys : List ℕ) : Type 0 where
+  pub is-accepted : AllYes (imageOf lift keys)
+  pub bytes : All Byte (imageOf lift keys)
+  pub list : keysOf (imageOf lift keys) ≡ keys
+  pub version : versionOf (imageOf lift keys) ≡ versionFor lift
+  pub its-lift : liftOf (imageOf lift keys) ≡ lift
 
-pub imaged : (keys : List ℕ) → Asc keys → Fits 32 keys → length keys ≤ 4096 → Imaged keys
+pub imaged : (lift : ℕ) (keys : List ℕ) → lift ≤ 999 → Asc keys → Fits 32 keys → length keys ≤ 4096 → Imaged lift keys
 unfolding levelsOf
-imaged keys a f few =
+imaged lift keys small a f few =
     let levels = levelsOf keys in
     let h = key-bands keys a f few in
-    let img : List ℕ = bytesOf (length keys) (bandAt levels) in
-    let is = image-bytes keys in
-    let p : Parts (length keys) (bandAt levels) img = parts (length keys) (bandAt levels) in
-    let b : All Byte img = all-bytes (length keys) (bandAt levels) h in
-    let found : imageLevels img ≡ levels = levels-found img levels (length-levelsOver 32 keys) (λ j lo hi. bands-in (length keys) (bandAt levels) h img p j lo hi b) in
+    let img : List ℕ = bytesOf lift (length keys) (bandAt levels) in
+    let is = image-bytes lift keys in
+    let p : Parts lift (length keys) (bandAt levels) img = parts lift (length keys) (bandAt levels) in
+    let b : All Byte img = all-bytes lift (length keys) small (bandAt levels) h in
+    let found : imageLevels img ≡ levels = levels-found img levels (length-levelsOver 32 keys) (λ j lo hi. bands-in lift (length keys) small (bandAt levels) h img p j lo hi b) in
     record {
-      is-accepted = rw is (accepted img (is-checked (length keys) (bandAt levels) h img p));
+      is-accepted = rw is (accepted img (is-checked lift (length keys) small (bandAt levels) h img p));
       bytes = rw is b;
       list = ap keysOf is ∙ keys-found img keys found (key-levels keys a f .back);
+      version = ap versionOf is ∙ version-in lift (length keys) small (bandAt levels) h img p;
+      its-lift = ap liftOf is ∙ lift-in lift (length keys) small (bandAt levels) h img p;
     }

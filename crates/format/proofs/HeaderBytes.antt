@@ -2,12 +2,15 @@
 -- Assumes nothing.
 use mathlib.Core.Path.{_≡_, refl, ap, _∙_}
 use mathlib.Core.List.{List, [], _∷_, _++_, flatMap, append-assoc}
-use Prim.Native.Nat.{ℕ, _*_}
+use Prim.Native.Nat.{ℕ, zero, suc, _*_, _≤_}
 use native.Mathlib.Omega.{arith}
-use lib.ListN.{length, length-append}
-use Rattle.format.specs.Page.{twoBytes}
-use Rattle.format.specs.Header.{header, headerEnd, headerStart, mark}
+use lib.ListN.{length, replicate, length-append}
+use Rattle.format.specs.Seq.{All}
+use Rattle.format.specs.Page.{Byte, twoBytes}
+use Rattle.format.specs.Header.{header, headerEnd, headerStart, mark, versionFor}
 use Rattle.format.specs.Writer.{bandCounts, pagesOf, rootsIn}
+use Rattle.format.proofs.Lists.{all-append, all-to}
+use Rattle.format.proofs.Bytes.{twoBytes-small, zeros-all}
 
 -- numbers of two bytes each
 pub length-two : (l : List ℕ) → length (flatMap twoBytes l) ≡ 2 * length l
@@ -30,22 +33,45 @@ unfolding flatMap bandCounts twoBytes
 count-bytes [] = refl
 count-bytes (band ∷ l) = ap (λ (t : List ℕ). countBytes band ++ t) (count-bytes l)
 
-pub length-start : length headerStart ≡ 6
+pub length-start : (lift : ℕ) → length (headerStart lift) ≡ 6
 unfolding headerStart mark twoBytes
-length-start = refl
+length-start lift = refl
 
-pub length-end : length headerEnd ≡ 24
-unfolding headerEnd
-length-end = refl
+pub length-end : (lift : ℕ) → length (headerEnd lift) ≡ 24
+unfolding headerEnd twoBytes
+length-end lift = refl
 
 -- the header has 64 bytes
-pub length-header : (n : ℕ) (counts : List ℕ) → length counts ≡ 16 → length (header n counts) ≡ 64
+pub length-header : (lift n : ℕ) (counts : List ℕ) → length counts ≡ 16 → length (header lift n counts) ≡ 64
 unfolding header twoBytes
-length-header n counts e =
-    length-append (headerStart ++ twoBytes n ++ flatMap twoBytes counts) headerEnd
-    ∙ omega (arith, length-append (headerStart ++ twoBytes n) (flatMap twoBytes counts), length-append headerStart (twoBytes n), length-start, length-two counts, length-end)
+length-header lift n counts e =
+    length-append (headerStart lift ++ twoBytes n ++ flatMap twoBytes counts) (headerEnd lift)
+    ∙ omega (arith, length-append (headerStart lift ++ twoBytes n) (flatMap twoBytes counts), length-append (headerStart lift) (twoBytes n), length-start lift, length-two counts, length-end lift)
 
 -- a header and what follows it, part by part
-pub header-parts : (n : ℕ) (counts body : List ℕ) → header n counts ++ body ≡ headerStart ++ (twoBytes n ++ (flatMap twoBytes counts ++ (headerEnd ++ body)))
+pub header-parts : (lift n : ℕ) (counts body : List ℕ) → header lift n counts ++ body ≡ headerStart lift ++ (twoBytes n ++ (flatMap twoBytes counts ++ (headerEnd lift ++ body)))
 unfolding header
-header-parts n counts body = simp append-assoc
+header-parts lift n counts body = simp append-assoc
+
+-- ---- the version
+
+pub version-some : (lift : ℕ) → 1 ≤ lift → versionFor lift ≡ 2
+unfolding versionFor
+version-some zero h = absurd (omega arith)
+version-some (suc n) h = refl
+
+pub version-small : (lift : ℕ) → versionFor lift ≤ 2
+unfolding versionFor
+version-small zero = omega arith
+version-small (suc n) = omega arith
+
+-- ---- all are bytes
+
+pub start-bytes : (lift : ℕ) → All Byte (headerStart lift)
+unfolding headerStart mark
+start-bytes lift =
+    all-append Byte (mark ++ twoBytes (versionFor lift)) (0 ∷ []) (omega arith, (omega arith, (omega arith, twoBytes-small (versionFor lift) (omega (arith, version-small lift))))) (omega arith, tt)
+
+pub end-bytes : (lift : ℕ) → lift ≤ 999 → All Byte (headerEnd lift)
+unfolding headerEnd
+end-bytes lift h = all-append Byte (twoBytes lift) (replicate 22 0) (twoBytes-small lift (omega arith)) (all-to (λ z. z ≡ 0) Byte (λ z e. omega arith) (replicate 22 0) (zeros-all 22))

@@ -45,9 +45,9 @@ record Opened (img records : List ℕ) (rank : ℕ) : Type 0 where
   rank-small : rank < openingsPlace img
   size : length records ≡ openingsPlace img + 1
 
-module _ (img records : List ℕ) (key time lockout : ℕ) where
+module _ (lift : ℕ) (img records : List ℕ) (key time lockout : ℕ) where
   questions : List Question
-  questions = imageQuestions img ++ scanQuestions img records key time lockout
+  questions = imageQuestions img ++ scanQuestions lift img records key time lockout
 
   opened-facts : (rank : ℕ) → All Byte img → settle questions (rankIn (keysOf img) key) ≡ returns rank → Opened img records rank
   unfolding questions scanQuestions openingsPlace
@@ -56,8 +56,8 @@ module _ (img records : List ℕ) (key time lockout : ℕ) where
       let yes-all = yes-of-none questions none-no in
       let image = all-left Yes (imageQuestions img) _ yes-all in
       let scan-yes = all-right Yes (imageQuestions img) _ yes-all in
-      let size = eqb-true (length records) (keyCount img + 1) (scan-yes .0) in
-      let in-list = scan-yes .1 .1 .1 .0 in
+      let size = eqb-true (length records) (keyCount img + 1) (scan-yes .1 .0) in
+      let in-list = scan-yes .1 .1 .1 .1 .0 in
       let c = checked img (none-of-yes (imageQuestions img) image) in
       record { rank-small = omega (arith, rank-below (keysOf img) key in-list, listed img a c .keys .count-is); size = size }
 
@@ -91,9 +91,9 @@ pub record Recorded (img records : List ℕ) (os : List Opening) (after : List �
   pub count : getD after (openingsPlace img) 0 ≡ getD records (openingsPlace img) 0 + length os
 
 -- after one scan
-one-scan : (img records : List ℕ) (card : Card) → All Byte img → Recorded img records (openingOf (scanOf img records card) (card .time)) (afterCard img records card)
+one-scan : (lift : ℕ) (img records : List ℕ) (card : Card) → All Byte img → Recorded img records (openingOf (scanOf lift img records card) (card .time)) (afterCard lift img records card)
 unfolding recordsAfterScan scan questions
-one-scan img records card a = go (scanOf img records card) (λ rank e. opened-facts img records (keyOf (card .holder) (card .slot)) (card .time) (card .lockout) rank a e)
+one-scan lift img records card a = go (scanOf lift img records card) (λ rank e. opened-facts lift img records (keyOf (card .holder) (card .slot)) (card .time) (card .lockout) rank a e)
   where
     go : (o : Outcome ℕ) → ((rank : ℕ) → o ≡ returns rank → Opened img records rank) → Recorded img records (openingOf o (card .time)) (recordsAfter o img records (card .time))
     go (refused n) f = unfold openingOf recordsAfter recordAfter in record { size = refl; ranks = λ r h. refl; count = omega arith }
@@ -108,14 +108,14 @@ record-append rank x [] ps = refl
 record-append rank x (o ∷ os) ps = record-append rank (cond (eqb (o .0) rank) (o .1 + 1) x) os ps
 
 -- after all cards
-pub history : (img records : List ℕ) (cards : List Card) → All Byte img → Recorded img records (openings img records cards) (afterCards img records cards)
+pub history : (lift : ℕ) (img records : List ℕ) (cards : List Card) → All Byte img → Recorded img records (openings lift img records cards) (afterCards lift img records cards)
 unfolding afterCards openings
-history img records [] a = unfold recordAfter in record { size = refl; ranks = λ r h. refl; count = omega arith }
-history img records (card ∷ cards) a =
-    let one = one-scan img records card a in
-    let rest = history img (afterCard img records card) cards a in
-    let first = openingOf (scanOf img records card) (card .time) in
-    let later = openings img (afterCard img records card) cards in
+history lift img records [] a = unfold recordAfter in record { size = refl; ranks = λ r h. refl; count = omega arith }
+history lift img records (card ∷ cards) a =
+    let one = one-scan lift img records card a in
+    let rest = history lift img (afterCard lift img records card) cards a in
+    let first = openingOf (scanOf lift img records card) (card .time) in
+    let later = openings lift img (afterCard lift img records card) cards in
     record {
       size = rest .size ∙ one .size;
       ranks = λ r h. rest .ranks r h ∙ ap (λ (x : ℕ). recordAfter r x later) (one .ranks r h) ∙ sym (record-append r (getD records r 0) first later);
@@ -123,21 +123,21 @@ history img records (card ∷ cards) a =
     }
 
 -- from a buffer of zeros: each record is 0 if its rank never opened, else the time of its last opening + 1; the last element is the number of openings
-pub record FromZeros (img : List ℕ) (cards : List Card) : Type 0 where
-  pub ranks : (r : ℕ) → r < keyCount img → getD (afterCards img (replicate (keyCount img + 1) 0) cards) r 0 ≡ recordAfter r 0 (openings img (replicate (keyCount img + 1) 0) cards)
-  pub count : getD (afterCards img (replicate (keyCount img + 1) 0) cards) (keyCount img) 0 ≡ length (openings img (replicate (keyCount img + 1) 0) cards)
+pub record FromZeros (lift : ℕ) (img : List ℕ) (cards : List Card) : Type 0 where
+  pub ranks : (r : ℕ) → r < keyCount img → getD (afterCards lift img (replicate (keyCount img + 1) 0) cards) r 0 ≡ recordAfter r 0 (openings lift img (replicate (keyCount img + 1) 0) cards)
+  pub count : getD (afterCards lift img (replicate (keyCount img + 1) 0) cards) (keyCount img) 0 ≡ length (openings lift img (replicate (keyCount img + 1) 0) cards)
 
 zero-at : (n r : ℕ) → getD {A = ℕ} (replicate n 0) r 0 ≡ 0
 zero-at zero r = refl
 zero-at (suc n) zero = refl
 zero-at (suc n) (suc r) = zero-at n r
 
-pub from-zeros : (img : List ℕ) (cards : List Card) → All Byte img → FromZeros img cards
+pub from-zeros : (lift : ℕ) (img : List ℕ) (cards : List Card) → All Byte img → FromZeros lift img cards
 unfolding openingsPlace
-from-zeros img cards a =
-    let h = history img (replicate (keyCount img + 1) 0) cards a in
+from-zeros lift img cards a =
+    let h = history lift img (replicate (keyCount img + 1) 0) cards a in
     record {
-      ranks = λ r l. h .ranks r l ∙ ap (λ (x : ℕ). recordAfter r x (openings img (replicate (keyCount img + 1) 0) cards)) (zero-at (keyCount img + 1) r);
+      ranks = λ r l. h .ranks r l ∙ ap (λ (x : ℕ). recordAfter r x (openings lift img (replicate (keyCount img + 1) 0) cards)) (zero-at (keyCount img + 1) r);
       count = omega (arith, h .count, zero-at (keyCount img + 1) (keyCount img));
     }
 
@@ -152,7 +152,7 @@ unfolding recordAfter
 record-kept rank [] x n = refl
 record-kept rank (o ∷ os) x n = ap (λ (y : ℕ). recordAfter rank y os) (cond-no (eqb (o .0) rank) (o .1 + 1) x (ne-eqb (o .0) rank (n .0))) ∙ record-kept rank os x (n .1)
 
-pub lockout-not-restarted : (img records : List ℕ) (cards : List Card) (rank : ℕ) → All Byte img → rank < openingsPlace img → NotAmong rank (openings img records cards)
-    → getD (afterCards img records cards) rank 0 ≡ getD records rank 0
-lockout-not-restarted img records cards rank a h none-opens =
-    history img records cards a .ranks rank h ∙ record-kept rank (openings img records cards) (getD records rank 0) none-opens
+pub lockout-not-restarted : (lift : ℕ) (img records : List ℕ) (cards : List Card) (rank : ℕ) → All Byte img → rank < openingsPlace img → NotAmong rank (openings lift img records cards)
+    → getD (afterCards lift img records cards) rank 0 ≡ getD records rank 0
+lockout-not-restarted lift img records cards rank a h none-opens =
+    history lift img records cards a .ranks rank h ∙ record-kept rank (openings lift img records cards) (getD records rank 0) none-opens

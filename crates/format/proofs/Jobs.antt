@@ -1,4 +1,4 @@
--- What the answer of a job tells of its questions, and what the writer asks of a list.
+-- What the answer of a job tells of its questions, and what the writer asks of a list and of a lift.
 -- Assumes nothing.
 use mathlib.Core.Path.{_≡_, refl, ap, _∙_}
 use mathlib.Core.Bool.{true}
@@ -7,9 +7,11 @@ use mathlib.Core.List.{List}
 use Prim.Native.Nat.{ℕ, _≤_}
 use native.Mathlib.Omega.{arith}
 use borrow.Author.Tests.{le-leb, leb-true}
+use lib.Dec.{leb}
 use lib.ListN.{length}
-use Rattle.format.specs.Question.{Question, firstNo, outcome, refused, returns, settle}
-use Rattle.format.specs.Writer.{ascending, listQuestions}
+use Rattle.format.specs.Question.{Question, Yes, firstNo, isLift, outcome, refused, returns, settle}
+use Rattle.format.specs.Writer.{ascending, liftQuestion, listQuestions}
+use Rattle.format.proofs.Lists.{and-both, and-left, and-right}
 use Rattle.format.proofs.Questions.{none-of-yes, yes-of-none}
 
 -- a refusal is the first no, and a job that returns got a yes throughout
@@ -37,3 +39,12 @@ list-writable keys few asc = none-of-yes (listQuestions keys) (le-leb (length ke
 pub of-writable : (keys : List ℕ) → firstNo (listQuestions keys) ≡ none → (length keys ≤ 4096) × (ascending keys ≡ true)
 unfolding listQuestions
 of-writable keys e = let y = yes-of-none (listQuestions keys) e in (leb-true (length keys) 4096 (y .0), y .1 .0)
+
+-- 35: a lift number is 1 to 999
+pub lift-of : (lift : ℕ) → Yes (liftQuestion lift) → (1 ≤ lift) × (lift ≤ 999)
+unfolding liftQuestion isLift
+lift-of lift h = (leb-true 1 lift (and-left (leb 1 lift) (leb lift 999) h), leb-true lift 999 (and-right (leb 1 lift) (leb lift 999) h))
+
+pub of-lift : (lift : ℕ) → 1 ≤ lift → lift ≤ 999 → Yes (liftQuestion lift)
+unfolding liftQuestion isLift
+of-lift lift lo hi = and-both (le-leb 1 lift lo) (le-leb lift 999 hi)

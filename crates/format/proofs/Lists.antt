@@ -1,7 +1,7 @@
 -- Lists: a fact of every element, tests of every element, sums, runs of numbers, pieces of lists.
 -- Assumes nothing.
-use mathlib.Core.Path.{_≡_, refl, ap, ap₂, _∙_, subst}
-use mathlib.Core.Bool.{Bool, true, false, _&&_}
+use mathlib.Core.Path.{_≡_, refl, sym, ap, ap₂, _∙_, subst}
+use mathlib.Core.Bool.{Bool, true, false, _&&_, _||_}
 use mathlib.Core.List.{List, [], _∷_, _++_, map, flatMap, head-eq-of-cons-eq, tail-eq-of-cons-eq}
 use Prim.Native.Nat.{ℕ, zero, suc, _+_, _*_, _≤_, _<_}
 use native.Mathlib.Nat.{add-zero, add-suc, suc-add, zero-add}
@@ -22,6 +22,20 @@ and-right false b h = cc
 
 pub and-both : {a b : Bool} → a ≡ true → b ≡ true → a && b ≡ true
 and-both h k = ap₂ _&&_ h k
+
+pub and-no : (a b : Bool) → a && b ≡ false → b ≡ true → a ≡ false
+and-no true b h k = sym k ∙ h
+and-no false b h k = refl
+
+pub or-first : (a b : Bool) → a ≡ true → a || b ≡ true
+or-first a b h = ap (_|| b) h
+
+pub or-second : (a b : Bool) → b ≡ true → a || b ≡ true
+or-second true b h = refl
+or-second false b h = h
+
+pub or-rest : (a b : Bool) → a || b ≡ true → a ≡ false → b ≡ true
+or-rest a b h e = sym (ap (_|| b) e) ∙ h
 
 -- ---- a fact of every element
 

@@ -27,6 +27,16 @@ unfolding firstNo
 none-of-yes [] h = refl
 none-of-yes (q ∷ qs) h = rw (h .0) (none-of-yes qs (h .1))
 
+-- one question after another
+module _ (n : ℕ) (t : Bool) (qs : List Question) where
+  pub asked-yes : t ≡ true → firstNo ((n, t) ∷ qs) ≡ firstNo qs
+  unfolding firstNo
+  asked-yes e = rw e
+
+  pub asked-no : t ≡ false → firstNo ((n, t) ∷ qs) ≡ some n
+  unfolding firstNo
+  asked-no e = rw e
+
 -- all yes: the questions after them decide
 pub after-yes : (qs rs : List Question) → firstNo qs ≡ none → firstNo (qs ++ rs) ≡ firstNo rs
 unfolding firstNo

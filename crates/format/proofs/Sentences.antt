@@ -1,21 +1,27 @@
--- Sentences of paper 01 that are laws of the definitions: sizes of subtries, ascending members, and where out-links lead. Those on T
+-- Sentences of the papers that are laws of the definitions: sizes of subtries, ascending members, where out-links lead, and version 1. Those on T
 -- and B are in Counters.
 -- Assumes nothing.
 use mathlib.Core.List.{List}
 use mathlib.Core.Path.{_≡_, sym, ap, _∙_}
+use mathlib.Core.Bool.{true}
 use Prim.Native.Nat.{ℕ, suc, _+_, _-_, _*_, _≤_, _<_}
 use native.Mathlib.Omega.{arith}
+use lib.Dec.{eqb}
+use borrow.Author.Tests.{eq-eqb}
 use lib.ListN.{length, getD}
 use Rattle.format.specs.declared.Rectangle.{Rectangle}
 use Rattle.format.specs.Seq.{All, rankIn}
 use Rattle.format.specs.Page.{Byte, firstSubtries, nodeCount}
-use Rattle.format.specs.Image.{keyCount, keysOf, pageCount, pageRoots, pageT}
+use Rattle.format.specs.Image.{keyCount, keysOf, liftOf, pageCount, pageRoots, pageT, versionOf}
+use Rattle.format.specs.Question.{isZero}
 use Rattle.format.specs.Answer.{inside, memberKeys}
+use Rattle.format.specs.Scan.{liftFits}
 use Rattle.format.specs.Exact.{Accepted}
+use Rattle.format.proofs.Lists.{or-first}
 use Rattle.format.proofs.Trie.{Asc, Shape}
 use Rattle.format.proofs.Subtries.{first-shape, length-first, node-bounds}
 use Rattle.format.proofs.Members.{select-asc}
-use Rattle.format.proofs.Checked.{Checked}
+use Rattle.format.proofs.Checked.{Checked, no-lift}
 use Rattle.format.proofs.Descent.{rank-at}
 use Rattle.format.proofs.Walk.{Out, Reached, outLink, reached-root}
 use Rattle.format.proofs.Levels.{depth, prefixes-asc, prefixes-keys, prefixesAt}
@@ -60,3 +66,8 @@ module _ (img : List ℕ) (a : All Byte img) (c : Checked img) (some : 1 ≤ key
       let within : outLink img 8 i q < length (keysOf img) = rw k at (o .within) in
       let here : getD (keysOf img) (outLink img 8 i q) 0 ≡ x = rw k at (o .prefix) in
       ap (rankIn (keysOf img)) (sym here) ∙ rank-at (keysOf img) (outLink img 8 i q) asc within
+
+-- "version 1 images count as lift 0": they pass at any gate
+pub any-gate : (lift : ℕ) (img : List ℕ) → versionOf img ≡ 1 → liftFits lift img ≡ true
+unfolding liftFits isZero
+any-gate lift img e = or-first (eqb (liftOf img) 0) (eqb (liftOf img) lift) (eq-eqb (liftOf img) 0 (no-lift img e))

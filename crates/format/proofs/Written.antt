@@ -13,17 +13,17 @@ use lib.Seq.{drop-drop, drop-at, take-at, getD-take}
 use Rattle.format.specs.Seq.{All, numbersFrom, total, upTo}
 use Rattle.format.specs.Trie.{onBits}
 use Rattle.format.specs.Page.{Byte, numberAt, twoBytes}
-use Rattle.format.specs.Header.{header, headerEnd, headerStart, mark}
-use Rattle.format.specs.Image.{bandLevels, bands, keyCount, outLinkCount, pageCount, pageLevels, pageNumber, pagesBefore, rootCount}
+use Rattle.format.specs.Header.{header, headerEnd, headerStart, mark, versionFor}
+use Rattle.format.specs.Image.{bandLevels, bands, keyCount, liftOf, outLinkCount, pageCount, pageLevels, pageNumber, pagesBefore, rootCount, versionOf}
 use Rattle.format.specs.Question.{outLinksDue}
-use Rattle.format.specs.Writer.{bandBytes, bandCounts, pageBytes, pagesOf, rootsIn}
-use Rattle.format.proofs.Lists.{all-append, all-numbers, all-flatMap, all-map, all-to, map-same}
+use Rattle.format.specs.Writer.{bandBytes, bandCounts, pagesOf, rootsIn}
+use Rattle.format.proofs.Lists.{all-numbers, map-same}
 use Rattle.format.proofs.Trie.{Shape}
 use Rattle.format.proofs.Shapes.{lastOn-grows}
 use Rattle.format.proofs.Pages.{Paged, glue, glue-roots, glue-links, lastOn-four, Pages, pages-of}
-use Rattle.format.proofs.Bytes.{number-of, twoBytes-small, zeros-all, pageBytes-small}
-use Rattle.format.proofs.HeaderBytes.{count-bytes, countBytes, header-parts, length-counts, length-end, length-header, length-start, length-two}
-use Rattle.format.proofs.Checked.{Counts, no-keys, some-keys, Header, Checked, cond-yes, cond-no}
+use Rattle.format.proofs.Bytes.{number-of, zeros-all}
+use Rattle.format.proofs.HeaderBytes.{count-bytes, countBytes, header-parts, length-counts, length-header, length-start, length-two}
+use Rattle.format.proofs.Checked.{Counts, no-keys, some-keys, Header, Checked, cond-yes, cond-no, lift-is}
 use Rattle.format.proofs.Read.{band-glued}
 use Rattle.format.proofs.Back.{pagesBefore-suc}
 use Rattle.format.proofs.WrittenPages.{AllRead, length-bandBytes, roots-none, read-pages, levels-read, all-ok}
@@ -43,20 +43,13 @@ pub record Bands (n : ℕ) (band : ℕ → List (List ℕ)) : Type 0 where
   pub few : n ≤ 4096
   pub top : Top n (rootsIn (band 1))
 
--- their bytes
-abbrev pub bytesOf : ℕ → (ℕ → List (List ℕ)) → List ℕ
-bytesOf n band = header n (flatMap bandCounts (map band bands)) ++ flatMap (λ x. bandBytes 0 0 (pagesOf x)) (map band bands)
+-- their bytes, for a lift
+abbrev pub bytesOf : ℕ → ℕ → (ℕ → List (List ℕ)) → List ℕ
+bytesOf lift n band = header lift n (flatMap bandCounts (map band bands)) ++ flatMap (λ x. bandBytes 0 0 (pagesOf x)) (map band bands)
 
 paged-length : (ps : List (List (List ℕ))) → Paged ps → length ps ≤ rootsIn (glue ps)
 paged-length [] h = omega arith
 paged-length (p ∷ ps) h = omega (arith, glue-roots p ps h, h .0 .some-roots, paged-length ps (h .2))
-
-bytes-small : (t o : ℕ) (ps : List (List (List ℕ))) → Paged ps → t + rootsIn (glue ps) < 65536 → o + total (map (λ p. onBits (getD p 3 [])) ps) < 65536 → All Byte (bandBytes t o ps)
-unfolding bandBytes total
-bytes-small t o [] h ht ho = tt
-bytes-small t o (p ∷ ps) h ht ho =
-    all-append Byte (pageBytes t o p) (bandBytes (t + rootsIn p) (o + onBits (getD p 3 [])) ps) (pageBytes-small t o (rootsIn p) p (omega arith) (omega arith) (h .0 .shape))
-    (bytes-small (t + rootsIn p) (o + onBits (getD p 3 [])) ps (h .2) (omega (arith, glue-roots p ps h)) (omega arith))
 
 length-pages : (band : ℕ → List (List ℕ)) (xs : List ℕ) → length (flatMap (λ x. bandBytes 0 0 (pagesOf x)) (map band xs)) ≡ 64 * total (map (λ b. length (pagesOf (band b))) xs)
 unfolding flatMap total
@@ -101,11 +94,11 @@ module _ (n : ℕ) (band : ℕ → List (List ℕ)) (h : Bands n band) where
 -- ---- the bytes, read
 
 -- the parts of the bytes
-pub record Parts (n : ℕ) (band : ℕ → List (List ℕ)) (img : List ℕ) : Type 0 where
-  pub start : take 6 img ≡ headerStart
-  pub from-6 : drop 6 img ≡ twoBytes n ++ (flatMap twoBytes (flatMap bandCounts (map band bands)) ++ (headerEnd ++ flatMap (λ x. bandBytes 0 0 (pagesOf x)) (map band bands)))
-  pub from-8 : drop 8 img ≡ flatMap countBytes (map band bands) ++ (headerEnd ++ flatMap (λ x. bandBytes 0 0 (pagesOf x)) (map band bands))
-  pub from-40 : take 24 (drop 40 img) ≡ headerEnd
+pub record Parts (lift n : ℕ) (band : ℕ → List (List ℕ)) (img : List ℕ) : Type 0 where
+  pub start : take 6 img ≡ headerStart lift
+  pub from-6 : drop 6 img ≡ twoBytes n ++ (flatMap twoBytes (flatMap bandCounts (map band bands)) ++ (headerEnd lift ++ flatMap (λ x. bandBytes 0 0 (pagesOf x)) (map band bands)))
+  pub from-8 : drop 8 img ≡ flatMap countBytes (map band bands) ++ (headerEnd lift ++ flatMap (λ x. bandBytes 0 0 (pagesOf x)) (map band bands))
+  pub from-40 : drop 40 img ≡ headerEnd lift ++ flatMap (λ x. bandBytes 0 0 (pagesOf x)) (map band bands)
   pub from-64 : drop 64 img ≡ flatMap (λ x. bandBytes 0 0 (pagesOf x)) (map band bands)
   pub size : length img ≡ 64 * (1 + total (map (λ b. length (pagesOf (band b))) bands))
 
@@ -113,22 +106,24 @@ eight : (band : ℕ → List (List ℕ)) → length (map band bands) ≡ 8
 unfolding bands numbersFrom
 eight band = refl
 
-pub parts : (n : ℕ) (band : ℕ → List (List ℕ)) → Parts n band (bytesOf n band)
-parts n band =
+pub parts : (lift n : ℕ) (band : ℕ → List (List ℕ)) → Parts lift n band (bytesOf lift n band)
+parts lift n band =
+    let img = bytesOf lift n band in
     let counts = flatMap bandCounts (map band bands) in
     let body = flatMap (λ x. bandBytes 0 0 (pagesOf x)) (map band bands) in
     let sixteen : length counts ≡ 16 = omega (arith, length-counts (map band bands), eight band) in
-    let rest = flatMap twoBytes counts ++ (headerEnd ++ body) in
-    let e : bytesOf n band ≡ headerStart ++ (twoBytes n ++ rest) = header-parts n counts body in
-    let e₆ : drop 6 (bytesOf n band) ≡ twoBytes n ++ rest = ap (drop 6) e ∙ drop-at headerStart (twoBytes n ++ rest) 6 length-start in
-    let e₈ : drop 8 (bytesOf n band) ≡ rest = sym (drop-drop 2 6 (bytesOf n band)) ∙ ap (drop 2) e₆ ∙ (unfold twoBytes in refl) in
+    let end = headerEnd lift ++ body in
+    let rest = flatMap twoBytes counts ++ end in
+    let e : img ≡ headerStart lift ++ (twoBytes n ++ rest) = header-parts lift n counts body in
+    let e₆ : drop 6 img ≡ twoBytes n ++ rest = ap (drop 6) e ∙ drop-at (headerStart lift) (twoBytes n ++ rest) 6 (length-start lift) in
+    let e₈ : drop 8 img ≡ rest = sym (drop-drop 2 6 img) ∙ ap (drop 2) e₆ ∙ (unfold twoBytes in refl) in
     record {
-      start = ap (take 6) e ∙ take-at headerStart (twoBytes n ++ rest) 6 length-start;
+      start = ap (take 6) e ∙ take-at (headerStart lift) (twoBytes n ++ rest) 6 (length-start lift);
       from-6 = e₆;
-      from-8 = e₈ ∙ ap (_++ (headerEnd ++ body)) (count-bytes (map band bands));
-      from-40 = ap (take 24) (sym (drop-drop 32 8 (bytesOf n band)) ∙ ap (drop 32) e₈ ∙ drop-at (flatMap twoBytes counts) (headerEnd ++ body) 32 (omega (arith, length-two counts))) ∙ take-at headerEnd body 24 length-end;
-      from-64 = drop-at (header n counts) body 64 (length-header n counts sixteen);
-      size = length-append (header n counts) body ∙ omega (arith, length-header n counts sixteen, length-pages band bands);
+      from-8 = e₈ ∙ ap (_++ end) (count-bytes (map band bands));
+      from-40 = sym (drop-drop 32 8 img) ∙ ap (drop 32) e₈ ∙ drop-at (flatMap twoBytes counts) end 32 (omega (arith, length-two counts));
+      from-64 = drop-at (header lift n counts) body 64 (length-header lift n counts sixteen);
+      size = length-append (header lift n counts) body ∙ omega (arith, length-header lift n counts sixteen, length-pages band bands);
     }
 
 counts-from : (band : ℕ → List (List ℕ)) (img R : List ℕ) → drop 8 img ≡ flatMap countBytes (map band bands) ++ R
@@ -158,7 +153,7 @@ counts-at band img R e k m n =
     let there : drop (6 + 4 * suc k) img ≡ twoBytes (rootsIn (band (suc k))) ++ more = ap (λ (j : ℕ). drop j img) (sym next) ∙ sym (drop-drop 2 (4 + 4 * suc k) img) ∙ ap (drop 2) here ∙ (unfold twoBytes in refl) in
     record { pages-are = number-of img (4 + 4 * suc k) _ _ here; roots-are = number-of img (6 + 4 * suc k) _ _ there }
 
-module _ (n : ℕ) (band : ℕ → List (List ℕ)) (h : Bands n band) (img : List ℕ) (p : Parts n band img) where
+module _ (lift n : ℕ) (small : lift ≤ 999) (band : ℕ → List (List ℕ)) (h : Bands n band) (img : List ℕ) (p : Parts lift n band img) where
   counts-in : (b : ℕ) → 1 ≤ b → b ≤ 8 → CountsAt band img b
   counts-in b lo hi =
       let e : suc (b - 1) ≡ b = omega arith in
@@ -233,22 +228,38 @@ module _ (n : ℕ) (band : ℕ → List (List ℕ)) (h : Bands n band) (img : Li
               let s : 1 ≤ rootsIn (band b) = subst (λ (b : ℕ). 1 ≤ rootsIn (band b)) k (some-roots n band h (b - 1) (omega arith) (omega arith)) in
               (omega (arith, counts-in b lo hi .pages-are, some-pages n band h b lo hi s), omega (arith, counts-in b lo hi .roots-are))
 
+  from-start : (k : ℕ) → k < 6 → getD img k 0 ≡ getD (headerStart lift) k 0
+  from-start k l = sym (getD-take 6 img k 0 l) ∙ ap (λ (l : List ℕ). getD l k 0) (p .start)
+
+  pub version-in : versionOf img ≡ versionFor lift
+  unfolding versionOf numberAt headerStart mark twoBytes
+  version-in = omega (arith, from-start 3 (omega arith), from-start 4 (omega arith))
+
+  lift-at : numberAt img 40 ≡ lift
+  unfolding headerEnd
+  lift-at = number-of img 40 lift _ (p .from-40 ∙ append-assoc (twoBytes lift) (replicate 22 0) _)
+
+  tail-in : take 22 (drop 42 img) ≡ replicate 22 0
+  unfolding headerEnd twoBytes
+  tail-in = ap (take 22) (sym (drop-drop 2 40 img) ∙ ap (drop 2) (p .from-40))
+
   header-ok : Header img
-  unfolding numberAt headerStart headerEnd mark twoBytes
+  unfolding headerStart mark twoBytes
   header-ok =
-      let at : (k : ℕ) → k < 6 → getD img k 0 ≡ getD headerStart k 0 = λ k l. sym (getD-take 6 img k 0 l) ∙ ap (λ (l : List ℕ). getD l k 0) (p .start) in
-      let x : getD img 3 0 ≡ 0 = at 3 (omega arith) in
-      let y : getD img 4 0 ≡ 1 = at 4 (omega arith) in
       record {
         long = omega (arith, p .size);
-        marked = λ k l. at k (omega arith) ∙ List·getD-append mark (drop 3 headerStart) 0 k l;
-        version = omega arith;
+        marked = λ k l. from-start k (omega arith) ∙ List·getD-append mark (drop 3 (headerStart lift)) 0 k l;
+        version = version-in ∙ ap versionFor (sym lift-at);
+        lift = rw lift-at small;
         few = rw keys-in (h .few);
-        five = at 5 (omega arith);
-        tail = rw (p .from-40) (zeros-all 24);
+        five = from-start 5 (omega arith);
+        tail = rw tail-in (zeros-all 22);
         size = p .size ∙ ap (λ (l : List ℕ). 64 * (1 + total l)) (map-same (λ b. length (pagesOf (band b))) (pageCount img) bands (unfold bands in all-numbers (λ b. length (pagesOf (band b)) ≡ pageCount img b) 1 8 (λ b lo hi. sym (counts-in b lo (omega arith) .pages-are))));
         counts = counts-ok;
       }
+
+  pub lift-in : liftOf img ≡ lift
+  lift-in = lift-is img header-ok ∙ lift-at
 
   pub is-checked : Checked img
   is-checked =
@@ -261,45 +272,3 @@ module _ (n : ℕ) (band : ℕ → List (List ℕ)) (h : Bands n band) (img : Li
   -- the bands are found in the bytes
   pub bands-in : (b : ℕ) → 1 ≤ b → b ≤ 8 → All Byte img → bandLevels img b ≡ band b
   bands-in b lo hi a = band-glued img a is-checked b lo hi ∙ ap glue (pages-in b lo hi) ∙ the-pages n band h b lo hi .glued
-
--- and they are bytes
-module _ (n : ℕ) (band : ℕ → List (List ℕ)) (h : Bands n band) where
-  counts-bytes : (b : ℕ) → 1 ≤ b → b ≤ 8 → All Byte (countBytes (band b))
-  counts-bytes b lo hi =
-      let r = few-roots n band h b lo hi in
-      let f = h .few in
-      all-append Byte (twoBytes (length (pagesOf (band b)))) (twoBytes (rootsIn (band b))) (twoBytes-small (length (pagesOf (band b))) (omega (arith, few-pages n band h b lo hi))) (twoBytes-small (rootsIn (band b)) (omega arith))
-
-  pages-bytes : (b : ℕ) → 1 ≤ b → b ≤ 8 → All Byte (bandBytes 0 0 (pagesOf (band b)))
-  pages-bytes b lo hi =
-      let g = the-pages n band h b lo hi in
-      let f = h .few in
-      bytes-small 0 0 (pagesOf (band b)) (g .paged) (omega (arith, few-roots n band h b lo hi, ap rootsIn (g .glued)))
-      (omega (arith, few-links n band h b lo hi, glue-links (pagesOf (band b)) (g .paged), ap (λ (v : List (List ℕ)). onBits (getD v 3 [])) (g .glued)))
-
-  start-bytes : All Byte headerStart
-  unfolding headerStart mark twoBytes
-  start-bytes = (omega arith, (omega arith, (omega arith, (omega arith, (omega arith, (omega arith, tt))))))
-
-  end-bytes : All Byte headerEnd
-  unfolding headerEnd
-  end-bytes = all-to (λ z. z ≡ 0) Byte (λ z e. omega arith) (replicate 24 0) (zeros-all 24)
-
-  all-counts : All Byte (flatMap twoBytes (flatMap bandCounts (map band bands)))
-  unfolding bands
-  all-counts =
-      rw (count-bytes (map band bands)) (all-flatMap countBytes Byte (map band bands) (all-map band (λ x. All Byte (countBytes x)) bands (all-numbers (λ b. All Byte (countBytes (band b))) 1 8 (λ b lo hi. counts-bytes b lo (omega arith)))))
-
-  header-bytes : All Byte (header n (flatMap bandCounts (map band bands)))
-  unfolding header
-  header-bytes =
-      let counts = flatMap twoBytes (flatMap bandCounts (map band bands)) in
-      all-append Byte (headerStart ++ twoBytes n ++ counts) headerEnd
-      (all-append Byte (headerStart ++ twoBytes n) counts (all-append Byte headerStart (twoBytes n) start-bytes (twoBytes-small n (omega (arith, h .few)))) all-counts)
-      end-bytes
-
-  pub all-bytes : All Byte (bytesOf n band)
-  unfolding bands
-  all-bytes =
-      all-append Byte (header n (flatMap bandCounts (map band bands))) (flatMap (λ x. bandBytes 0 0 (pagesOf x)) (map band bands)) header-bytes
-      (all-flatMap (λ x. bandBytes 0 0 (pagesOf x)) Byte (map band bands) (all-map band (λ x. All Byte (bandBytes 0 0 (pagesOf x))) bands (all-numbers (λ b. All Byte (bandBytes 0 0 (pagesOf (band b)))) 1 8 (λ b lo hi. pages-bytes b lo (omega arith)))))

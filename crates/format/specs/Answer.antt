@@ -10,13 +10,17 @@ use Rattle.format.specs.declared.Rectangle.{Rectangle}
 use Rattle.format.specs.Seq.{select, isIn, rankIn, lastBelow}
 use Rattle.format.specs.Key.{keyOf, holderOf, slotOf}
 use Rattle.format.specs.Trie.{descend}
-use Rattle.format.specs.Image.{bands, keyCount, pageCount, pageNumber, pageT, imageLevels, keysOf, listOf}
+use Rattle.format.specs.Image.{bands, keyCount, liftOf, pageCount, pageNumber, pageT, imageLevels, keysOf, listOf}
 use Rattle.format.specs.Question.{Question, Outcome, settle, filled, imageQuestions}
 
--- ---- the checker: 1 to 13
+-- ---- the checker: 1 to 13, with 35
 
 unfoldable pub check : List ℕ → Outcome ℕ
 check img = settle (imageQuestions img) (keyCount img)
+
+-- the lift of an accepted image, 0 in version 1: beyond the papers
+unfoldable pub lift : List ℕ → Outcome ℕ
+lift img = settle (imageQuestions img) (liftOf img)
 
 -- ---- lookup: the rank and the eight page numbers on the key's path, or absent
 

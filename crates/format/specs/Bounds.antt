@@ -28,9 +28,9 @@ pub record Bounded (pages : ℕ → ℕ) (bytes : ℕ) : Type 0 where
 
 -- the statement: the bound holds of every list and of every accepted image
 pub record PageBound : Type 0 where
-  -- no list of up to 4,096 strictly ascending keys, of 32 bits each, needs more
-  pub of-list : (keys : List ℕ) → All (λ key. key < 2 ^ 32) keys → length keys ≤ 4096 → ascending keys ≡ true → Bounded (pagesNeeded keys) (length (imageOf keys))
+  -- no list of up to 4,096 strictly ascending keys, of 32 bits each, needs more, for any lift
+  pub of-list : (lift : ℕ) (keys : List ℕ) → All (λ key. key < 2 ^ 32) keys → length keys ≤ 4096 → ascending keys ≡ true → Bounded (pagesNeeded keys) (length (imageOf lift keys))
   -- no accepted image has more
   pub of-image : (img : List ℕ) → Accepted img → Bounded (pageCount img) (length img)
   -- a buffer of 24,640 bytes has room for the image of any list that the writer accepts: 17 gets a yes
-  pub room : (list : List (ℕ × ℕ)) → WriterAccepts list → (buffer : List ℕ) → 24640 ≤ length buffer → Yes (roomQuestion (woven list) buffer)
+  pub room : (lift : ℕ) (list : List (ℕ × ℕ)) → WriterAccepts list → (buffer : List ℕ) → 24640 ≤ length buffer → Yes (roomQuestion lift (woven list) buffer)

@@ -1,4 +1,4 @@
--- A gate's history: one image, and scans one after the other.
+-- A gate's history: one lift number, one image, and scans one after the other.
 -- Assumes nothing.
 use Prim.Native.Nat.{ℕ, _+_}
 use mathlib.Core.Bool.{cond}
@@ -14,16 +14,16 @@ pub record Card : Type 0 where
   pub time : ℕ
   pub lockout : ℕ
 
-abbrev pub scanOf : List ℕ → List ℕ → Card → Outcome ℕ
-scanOf img records card = scan img records (card .holder) (card .slot) (card .time) (card .lockout)
+abbrev pub scanOf : ℕ → List ℕ → List ℕ → Card → Outcome ℕ
+scanOf lift img records card = scan lift img records (card .holder) (card .slot) (card .time) (card .lockout)
 
-abbrev pub afterCard : List ℕ → List ℕ → Card → List ℕ
-afterCard img records card = recordsAfterScan img records (card .holder) (card .slot) (card .time) (card .lockout)
+abbrev pub afterCard : ℕ → List ℕ → List ℕ → Card → List ℕ
+afterCard lift img records card = recordsAfterScan lift img records (card .holder) (card .slot) (card .time) (card .lockout)
 
 -- the records after all cards
-unfoldable pub afterCards : List ℕ → List ℕ → List Card → List ℕ
-afterCards img records [] = records
-afterCards img records (card ∷ cards) = afterCards img (afterCard img records card) cards
+unfoldable pub afterCards : ℕ → List ℕ → List ℕ → List Card → List ℕ
+afterCards lift img records [] = records
+afterCards lift img records (card ∷ cards) = afterCards lift img (afterCard lift img records card) cards
 
 -- an opening: the rank that it records, and its time
 abbrev pub Opening : Type 0
@@ -35,9 +35,9 @@ openingOf (refused n) time = []
 openingOf (returns rank) time = (rank, time) ∷ []
 
 -- the openings among the cards, in order
-unfoldable pub openings : List ℕ → List ℕ → List Card → List Opening
-openings img records [] = []
-openings img records (card ∷ cards) = openingOf (scanOf img records card) (card .time) ++ openings img (afterCard img records card) cards
+unfoldable pub openings : ℕ → List ℕ → List ℕ → List Card → List Opening
+openings lift img records [] = []
+openings lift img records (card ∷ cards) = openingOf (scanOf lift img records card) (card .time) ++ openings lift img (afterCard lift img records card) cards
 
 -- what stands at a rank after some openings, where x stood before them: the time of its last opening + 1, or x if it has none
 unfoldable pub recordAfter : ℕ → ℕ → List Opening → ℕ

@@ -3,7 +3,7 @@
 use Prim.Native.Nat.{ℕ, _+_, _-_, _*_}
 use mathlib.Core.Bool.{cond}
 use mathlib.Core.List.{List, [], _∷_, map, flatMap}
-use lib.Dec.{ltb}
+use lib.Dec.{ltb, eqb}
 use lib.ListN.{getD, take, drop}
 use Rattle.format.specs.Seq.{numbersFrom, upTo, total}
 use Rattle.format.specs.Key.{unwoven}
@@ -13,6 +13,13 @@ use Rattle.format.specs.Page.{levelsIn, nodeCount, pairsOf, numberAt}
 -- the eight bands
 unfoldable pub bands : List ℕ
 bands = numbersFrom 1 8
+
+-- the header's version, and the lift that the image is for: 0 in version 1, else the number at bytes 40 and 41
+unfoldable pub versionOf : List ℕ → ℕ
+versionOf img = numberAt img 3
+
+unfoldable pub liftOf : List ℕ → ℕ
+liftOf img = cond (eqb (versionOf img) 1) 0 (numberAt img 40)
 
 -- the header's key count, and a band's page count and root count
 unfoldable pub keyCount : List ℕ → ℕ

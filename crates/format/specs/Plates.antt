@@ -3,7 +3,7 @@
 use mathlib.Core.Path.{_≡_}
 use Prim.Native.Nat.{ℕ, _-_}
 use mathlib.Core.List.{List, [], _∷_, _++_, flatMap}
-use lib.ListN.{length, replicate}
+use lib.ListN.{length, replicate, set}
 use Rattle.format.specs.Seq.{upTo}
 use Rattle.format.specs.Key.{keyOf}
 use Rattle.format.specs.Image.{keysOf}
@@ -12,7 +12,7 @@ use Rattle.format.specs.Question.{returns}
 use Rattle.format.specs.Answer.{check, count, memberKeys}
 use Rattle.format.specs.declared.Rectangle.{Rectangle}
 
--- the first six bytes, written out, so that no plate rests on specs/Header
+-- the first six bytes of version 1, written out, so that no plate rests on specs/Header
 unfoldable pub firstBytes : List ℕ
 firstBytes = 0x4C ∷ 0x50 ∷ 0x54 ∷ 0 ∷ 1 ∷ 0 ∷ []
 
@@ -26,11 +26,11 @@ firstPage nodes = 0 ∷ 0 ∷ 0 ∷ 0 ∷ nodes ++ replicate (60 - length nodes)
 unfoldable pub onePageImage : ℕ → List ℕ → List (List ℕ) → List ℕ
 onePageImage n roots nodes = onePageHeader n roots ++ flatMap firstPage nodes
 
--- the keys' image has these bytes, the checker accepts it, and its list is the keys
+-- the keys' image in version 1 has these bytes, the checker accepts it, and its list is the keys
 pub record Image-is (keys img : List ℕ) : Type 0 where
-  pub bytes : imageOf keys ≡ img
-  pub accepted : check (imageOf keys) ≡ returns (length keys)
-  pub list : keysOf (imageOf keys) ≡ keys
+  pub bytes : imageOf 0 keys ≡ img
+  pub accepted : check (imageOf 0 keys) ≡ returns (length keys)
+  pub list : keysOf (imageOf 0 keys) ≡ keys
 
 -- plate 11's rectangle: holders 2 to 3, slot 1
 abbrev pub plate11 : Rectangle
@@ -45,11 +45,14 @@ pub record Plates : Type 0 where
   pub plate-6 : keyOf 65535 65535 ≡ 4294967295
   pub plate-7 : Image-is [] (firstBytes ++ replicate 58 0)
   pub plate-8 : Image-is (0 ∷ []) (onePageImage 1 (replicate 8 1) (replicate 8 (0xAA ∷ [])))
-  pub plate-8-length : length (imageOf (0 ∷ [])) ≡ 576
+  pub plate-8-length : length (imageOf 0 (0 ∷ [])) ≡ 576
+  -- in version 2, for lift 258, bytes 4, 40 and 41 are others
+  pub plate-8-lift : imageOf 258 (0 ∷ []) ≡ set (set (set (onePageImage 1 (replicate 8 1) (replicate 8 (0xAA ∷ []))) 4 2) 40 1) 41 2
+  pub plate-8-lift-accepted : check (imageOf 258 (0 ∷ [])) ≡ returns 1
   pub plate-9 : Image-is (0 ∷ 1 ∷ []) (onePageImage 2 (replicate 8 1) (replicate 7 (0xAA ∷ []) ++ (0xAB ∷ []) ∷ []))
   pub plate-10 : Image-is (0 ∷ 4294967295 ∷ []) (onePageImage 2 (1 ∷ replicate 7 2) ((0xE6 ∷ 0x64 ∷ []) ∷ replicate 7 (0x99 ∷ 0x99 ∷ [])))
-  pub plate-11 : memberKeys (imageOf (upTo 16)) plate11 ≡ 9 ∷ 11 ∷ []
-  pub plate-11-count : count (imageOf (upTo 16)) plate11 ≡ returns 2
+  pub plate-11 : memberKeys (imageOf 0 (upTo 16)) plate11 ≡ 9 ∷ 11 ∷ []
+  pub plate-11-count : count (imageOf 0 (upTo 16)) plate11 ≡ returns 2
   pub plate-12 : Image-is (3 ∷ 44 ∷ 128 ∷ 133 ∷ 136 ∷ 160 ∷ 172 ∷ 192 ∷ [])
       (onePageImage 8 (replicate 7 1 ++ 5 ∷ [])
       (replicate 6 (0xAA ∷ []) ++ (0xEF ∷ 0xEA ∷ 0xA8 ∷ []) ∷ (0x9F ∷ 0xA7 ∷ 0xA6 ∷ 0x6A ∷ 0xAA ∷ 0x69 ∷ 0xAA ∷ []) ∷ []))

@@ -2,7 +2,7 @@
 -- Assumes nothing.
 use mathlib.Core.Path.{_≡_}
 use Prim.Native.Nat.{ℕ, zero, suc, _+_, _*_}
-use mathlib.Core.Bool.{Bool, true, _&&_, cond}
+use mathlib.Core.Bool.{Bool, true, _&&_, _||_, cond}
 use mathlib.Core.Option.{Option, none, some}
 use mathlib.Core.List.{List, [], _∷_, _++_, map, flatMap}
 use lib.Dec.{leb, ltb, eqb}
@@ -10,7 +10,7 @@ use lib.ListN.{length, getD, take, drop}
 use Rattle.format.specs.Seq.{numbersFrom, upTo, total, every}
 use Rattle.format.specs.Page.{firstSubtries, nodeCount, numberAt}
 use Rattle.format.specs.Header.{mark}
-use Rattle.format.specs.Image.{bands, keyCount, pageCount, rootCount, pageT, pageB, pagePairs, pageRoots, pageLevels, pageNodes, outLinkCount}
+use Rattle.format.specs.Image.{bands, versionOf, liftOf, keyCount, pageCount, rootCount, pageT, pageB, pagePairs, pageRoots, pageLevels, pageNodes, outLinkCount}
 
 -- ---- questions and outcomes
 
@@ -44,7 +44,7 @@ unfoldable pub filled {ℓ} : {A : Type ℓ} → Outcome A → List ℕ → List
 filled (refused n) xs buffer = buffer
 filled (returns a) xs buffer = xs ++ drop (length xs) buffer
 
--- ---- 1 to 7, of the header
+-- ---- 1 to 7 and 35, of the header
 
 unfoldable pub isZero : ℕ → Bool
 isZero n = eqb n 0
@@ -56,6 +56,22 @@ isPositive n = leb 1 n
 unfoldable pub markRight : List ℕ → Bool
 markRight img = every (λ i. eqb (getD img i 0) (getD mark i 0)) (upTo 3)
 
+-- 3: the version is 1 or 2
+unfoldable pub versionKnown : List ℕ → Bool
+versionKnown img = eqb (versionOf img) 1 || eqb (versionOf img) 2
+
+-- 5: byte 5 and bytes 40 to 63 are zero; in version 2 bytes 40 and 41, the lift's, are left out
+unfoldable pub zerosRight : List ℕ → Bool
+zerosRight img = isZero (getD img 5 0) && (eqb (versionOf img) 2 || isZero (numberAt img 40)) && every isZero (take 22 (drop 42 img))
+
+-- a lift number: 1 to 999
+unfoldable pub isLift : ℕ → Bool
+isLift n = leb 1 n && leb n 999
+
+-- 35: the lift of version 2 is a lift number
+unfoldable pub liftRight : List ℕ → Bool
+liftRight img = eqb (versionOf img) 1 || isLift (liftOf img)
+
 -- 7: with key count 0 all band counts are 0; else band 1 has one page and one root, and every other band count is at least 1
 unfoldable pub countsFit : List ℕ → Bool
 countsFit img =
@@ -63,13 +79,15 @@ countsFit img =
     (every (λ b. isZero (pageCount img b) && isZero (rootCount img b)) bands)
     (eqb (pageCount img 1) 1 && eqb (rootCount img 1) 1 && every (λ b. isPositive (pageCount img b) && isPositive (rootCount img b)) (numbersFrom 2 7))
 
+-- 1 to 7, with 35 right after 5: where 1 to 7 or 1 to 13 are named, 35 is among them
 unfoldable pub headerQuestions : List ℕ → List Question
 headerQuestions img =
     (1, leb 64 (length img))
     ∷ (2, markRight img)
-    ∷ (3, eqb (numberAt img 3) 1)
+    ∷ (3, versionKnown img)
     ∷ (4, leb (keyCount img) 4096)
-    ∷ (5, isZero (getD img 5 0) && every isZero (take 24 (drop 40 img)))
+    ∷ (5, zerosRight img)
+    ∷ (35, liftRight img)
     ∷ (6, eqb (length img) (64 * (1 + total (map (pageCount img) bands))))
     ∷ (7, countsFit img)
     ∷ []
@@ -107,6 +125,6 @@ bandQuestions img b =
     flatMap (pageQuestions img b) (upTo (pageCount img b))
     ++ (13, eqb (total (map (outLinkCount img b) (upTo (pageCount img b)))) (outLinksDue img b)) ∷ []
 
--- 1 to 13, pages in image order
+-- 1 to 13 (with 35), pages in image order
 unfoldable pub imageQuestions : List ℕ → List Question
 imageQuestions img = headerQuestions img ++ flatMap (bandQuestions img) bands

@@ -1,13 +1,13 @@
 -- The gate's scan: its questions, what it returns, and the record buffer at exit.
 -- Assumes nothing.
 use Prim.Native.Nat.{ℕ, _+_}
-use mathlib.Core.Bool.{_||_}
+use mathlib.Core.Bool.{Bool, _||_}
 use mathlib.Core.List.{List, [], _∷_, _++_}
 use lib.Dec.{leb, ltb, eqb}
 use lib.ListN.{length, getD, set}
 use Rattle.format.specs.Seq.{isIn, rankIn}
 use Rattle.format.specs.Key.{keyOf}
-use Rattle.format.specs.Image.{keyCount, keysOf}
+use Rattle.format.specs.Image.{keyCount, keysOf, liftOf}
 use Rattle.format.specs.Question.{Question, Outcome, refused, returns, settle, isZero, imageQuestions}
 
 -- the largest 32-bit number
@@ -22,10 +22,15 @@ openingsPlace img = keyCount img
 unfoldable pub recordOf : List ℕ → List ℕ → ℕ → ℕ
 recordOf img records key = getD records (rankIn (keysOf img) key) 0
 
--- 21 to 26. 25 and 26 are about numbers, so that no sum overflows.
-unfoldable pub scanQuestions : List ℕ → List ℕ → ℕ → ℕ → ℕ → List Question
-scanQuestions img records key time lockout =
-    (21, eqb (length records) (openingsPlace img + 1))
+-- 36: the image names no lift, or the gate's
+unfoldable pub liftFits : ℕ → List ℕ → Bool
+liftFits lift img = isZero (liftOf img) || eqb (liftOf img) lift
+
+-- 36 and 21 to 26, at a gate of that lift. 25 and 26 are about numbers, so that no sum overflows.
+unfoldable pub scanQuestions : ℕ → List ℕ → List ℕ → ℕ → ℕ → ℕ → List Question
+scanQuestions lift img records key time lockout =
+    (36, liftFits lift img)
+    ∷ (21, eqb (length records) (openingsPlace img + 1))
     ∷ (22, ltb time largest32)
     ∷ (23, ltb (getD records (openingsPlace img) 0) largest32)
     ∷ (24, isIn key (keysOf img))
@@ -33,10 +38,10 @@ scanQuestions img records key time lockout =
     ∷ (26, isZero (recordOf img records key) || leb (recordOf img records key + lockout) (time + 1))
     ∷ []
 
--- 1 to 13, then 21 to 26; returns the rank
-unfoldable pub scan : List ℕ → List ℕ → ℕ → ℕ → ℕ → ℕ → Outcome ℕ
-scan img records holder slot time lockout =
-    settle (imageQuestions img ++ scanQuestions img records (keyOf holder slot) time lockout) (rankIn (keysOf img) (keyOf holder slot))
+-- 1 to 13, then 36 and 21 to 26; returns the rank
+unfoldable pub scan : ℕ → List ℕ → List ℕ → ℕ → ℕ → ℕ → ℕ → Outcome ℕ
+scan lift img records holder slot time lockout =
+    settle (imageQuestions img ++ scanQuestions lift img records (keyOf holder slot) time lockout) (rankIn (keysOf img) (keyOf holder slot))
 
 -- the records after an opening at a rank: time + 1 there, one more in the openings count, the other elements as they were
 unfoldable pub opened : List ℕ → List ℕ → ℕ → ℕ → List ℕ
@@ -47,5 +52,5 @@ unfoldable pub recordsAfter : Outcome ℕ → List ℕ → List ℕ → ℕ → 
 recordsAfter (refused n) img records time = records
 recordsAfter (returns rank) img records time = opened img records rank time
 
-unfoldable pub recordsAfterScan : List ℕ → List ℕ → ℕ → ℕ → ℕ → ℕ → List ℕ
-recordsAfterScan img records holder slot time lockout = recordsAfter (scan img records holder slot time lockout) img records time
+unfoldable pub recordsAfterScan : ℕ → List ℕ → List ℕ → ℕ → ℕ → ℕ → ℕ → List ℕ
+recordsAfterScan lift img records holder slot time lockout = recordsAfter (scan lift img records holder slot time lockout) img records time

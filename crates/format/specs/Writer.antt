@@ -9,7 +9,7 @@ use Rattle.format.specs.Trie.{levelsOf, onBits}
 use Rattle.format.specs.Page.{firstSubtries, laterSubtries, nodeCount, nodeBytes, twoBytes}
 use Rattle.format.specs.Header.{header}
 use Rattle.format.specs.Key.{woven}
-use Rattle.format.specs.Question.{Question, Outcome, settle, filled}
+use Rattle.format.specs.Question.{Question, Outcome, settle, filled, isLift}
 
 -- ---- bands, subtries and pages
 
@@ -64,9 +64,9 @@ bandBytes t b (page ∷ pages) = pageBytes t b page ++ bandBytes (t + rootsIn pa
 unfoldable pub bandCounts : List (List ℕ) → List ℕ
 bandCounts band = length (pagesOf band) ∷ rootsIn band ∷ []
 
--- the image of a list of keys
-unfoldable pub imageOf : List ℕ → List ℕ
-imageOf keys = header (length keys) (flatMap bandCounts (bandsOf keys)) ++ flatMap (λ band. bandBytes 0 0 (pagesOf band)) (bandsOf keys)
+-- the image of a list of keys for a lift, 0 for version 1
+unfoldable pub imageOf : ℕ → List ℕ → List ℕ
+imageOf lift keys = header lift (length keys) (flatMap bandCounts (bandsOf keys)) ++ flatMap (λ band. bandBytes 0 0 (pagesOf band)) (bandsOf keys)
 
 -- ---- the job
 
@@ -76,6 +76,13 @@ ascending [] = true
 ascending (x ∷ []) = true
 ascending (x ∷ y ∷ ys) = ltb x y && ascending (y ∷ ys)
 
+-- 35, of a lift number, and where lift 0, for version 1, may be written too
+unfoldable pub liftQuestion : ℕ → Question
+liftQuestion lift = (35, isLift lift)
+
+unfoldable pub eitherQuestion : ℕ → Question
+eitherQuestion lift = (35, leb lift 999)
+
 -- 14 and 15, and 17. Number 16 is unused: it asked whether each band's page count fits 16 bits, which it always does (specs/Bounds).
 unfoldable pub listQuestions : List ℕ → List Question
 listQuestions keys =
@@ -83,19 +90,19 @@ listQuestions keys =
     ∷ (15, ascending keys)
     ∷ []
 
-unfoldable pub roomQuestion : List ℕ → List ℕ → Question
-roomQuestion keys buffer = (17, leb (length (imageOf keys)) (length buffer))
+unfoldable pub roomQuestion : ℕ → List ℕ → List ℕ → Question
+roomQuestion lift keys buffer = (17, leb (length (imageOf lift keys)) (length buffer))
 
--- the writer on keys: returns the image's length and fills just that many first bytes of the buffer
-unfoldable pub writeKeys : List ℕ → List ℕ → Outcome ℕ
-writeKeys keys buffer = settle (listQuestions keys ++ roomQuestion keys buffer ∷ []) (length (imageOf keys))
+-- the writer on keys, where that is asked of the lift, first of all: returns the image's length and fills just that many first bytes of the buffer
+unfoldable pub writeKeys : Question → ℕ → List ℕ → List ℕ → Outcome ℕ
+writeKeys asked lift keys buffer = settle (asked ∷ listQuestions keys ++ roomQuestion lift keys buffer ∷ []) (length (imageOf lift keys))
 
-unfoldable pub bufferAfterWriteKeys : List ℕ → List ℕ → List ℕ
-bufferAfterWriteKeys keys buffer = filled (writeKeys keys buffer) (imageOf keys) buffer
+unfoldable pub bufferAfterWriteKeys : Question → ℕ → List ℕ → List ℕ → List ℕ
+bufferAfterWriteKeys asked lift keys buffer = filled (writeKeys asked lift keys buffer) (imageOf lift keys) buffer
 
--- and on admissions
-unfoldable pub write : List (ℕ × ℕ) → List ℕ → Outcome ℕ
-write list buffer = writeKeys (woven list) buffer
+-- the writer on admissions, which writes version 2
+unfoldable pub write : ℕ → List (ℕ × ℕ) → List ℕ → Outcome ℕ
+write lift list buffer = writeKeys (liftQuestion lift) lift (woven list) buffer
 
-unfoldable pub bufferAfterWrite : List (ℕ × ℕ) → List ℕ → List ℕ
-bufferAfterWrite list buffer = bufferAfterWriteKeys (woven list) buffer
+unfoldable pub bufferAfterWrite : ℕ → List (ℕ × ℕ) → List ℕ → List ℕ
+bufferAfterWrite lift list buffer = bufferAfterWriteKeys (liftQuestion lift) lift (woven list) buffer

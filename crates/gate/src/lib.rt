@@ -2,7 +2,8 @@
 use query::Presence;
 ghost use mathlib.Core.Path.{_≡_};
 ghost use mathlib.Core.Bool.{true};
-ghost use Prim.Native.Nat.{_<_};
+ghost use Prim.Native.Nat.{_≤_, _<_};
+ghost use lib.ListN.{length};
 ghost use Rattle.format.specs.Question.{settle};
 ghost use Rattle.format.specs.Scan;
 ghost use Rattle.gate.specs.Gate.{outcomeOf, gateQuestions, gateRecords, timeRight, lockoutOver};
@@ -13,6 +14,18 @@ pub enum Scanned {
     Opened(u32),
     // The number of the question that got a no.
     Refused(u8),
+}
+
+// 36: the image names no lift, or the gate's.
+fn lift_fits(image: &[u8], lift: u32) -> bool
+    requires { ⌜ 64 ≤ length (now image) ⌝ }
+    ensures { λ r. ⌜ r ≡ Scan.liftFits lift (now (image .entry)) ⌝ }
+{
+    let named = header::lift(image);
+    if named == 0 {
+        return true;
+    }
+    named == lift as usize
 }
 
 // 25: never opened, or the time is not before the last opening. The sums are wider than 32 bits, so that none wraps.
@@ -35,19 +48,24 @@ fn lockout_over(last: u32, time: u32, lockout: u32) -> bool
     last as u64 + lockout as u64 <= time as u64 + 1
 }
 
-// 21 to 26, of an image with `keys` keys and an admission that is listed at `rank`, or not listed; and the opening.
+// 36 and 21 to 26, of an image with `keys` keys, whose lift fits or not, and an admission that is listed at `rank`, or not listed; and the opening.
 fn admit(
     records: &mut [u32],
     keys: usize,
+    fits: bool,
     listed: bool,
     rank: u32,
     time: u32,
     lockout: u32,
 ) -> Scanned
     requires { ⌜ (keys < 65536) × (listed ≡ true → rank < keys) ⌝ }
-    ensures { λ r. ⌜ (outcomeOf r ≡ settle (gateQuestions keys (now (records .entry)) listed rank time lockout) rank) × (now (records .exit) ≡ gateRecords (outcomeOf r) keys (now (records .entry)) time) ⌝ }
+    ensures { λ r. ⌜ (outcomeOf r ≡ settle (gateQuestions keys (now (records .entry)) fits listed rank time lockout) rank) × (now (records .exit) ≡ gateRecords (outcomeOf r) keys (now (records .entry)) time) ⌝ }
 {
-    if records.len() != keys + 1 {
+    let long = records.len() == keys + 1;
+    if !fits {
+        return Scanned::Refused(36);
+    }
+    if !long {
         return Scanned::Refused(21);
     }
     if time == 4294967295 {
@@ -73,8 +91,8 @@ fn admit(
     Scanned::Opened(rank)
 }
 
-// Whether the admission opens at that time, after the lockout. An opening returns its rank, records time + 1 there and adds one to the last element; a
-// refusal changes nothing.
+// Whether the admission opens at a gate of that lift, at that time, after the lockout. An opening returns its rank, records time + 1 there and
+// adds one to the last element; a refusal changes nothing.
 pub fn scan(
     image: &[u8],
     records: &mut [u32],
@@ -82,8 +100,9 @@ pub fn scan(
     slot: u16,
     time: u32,
     lockout: u32,
+    lift: u32,
 ) -> Scanned
-    ensures { λ r. ⌜ (outcomeOf r ≡ Scan.scan (now (image .entry)) (now (records .entry)) holder slot time lockout) × (now (records .exit) ≡ Scan.recordsAfterScan (now (image .entry)) (now (records .entry)) holder slot time lockout) ⌝ }
+    ensures { λ r. ⌜ (outcomeOf r ≡ Scan.scan lift (now (image .entry)) (now (records .entry)) holder slot time lockout) × (now (records .exit) ≡ Scan.recordsAfterScan lift (now (image .entry)) (now (records .entry)) holder slot time lockout) ⌝ }
 {
     let found = query::lookup(image, holder, slot);
     let answer = found.answer;
@@ -92,10 +111,26 @@ pub fn scan(
             return Scanned::Refused(n);
         }
         Presence::Absent => {
-            return admit(records, header::key_count(image), false, 0, time, lockout);
+            return admit(
+                records,
+                header::key_count(image),
+                lift_fits(image, lift),
+                false,
+                0,
+                time,
+                lockout,
+            );
         }
         Presence::Listed(rank) => {
-            return admit(records, header::key_count(image), true, rank, time, lockout);
+            return admit(
+                records,
+                header::key_count(image),
+                lift_fits(image, lift),
+                true,
+                rank,
+                time,
+                lockout,
+            );
         }
     }
 }

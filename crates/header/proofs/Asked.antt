@@ -1,31 +1,76 @@
--- Questions 1 to 7 asked in order. Assumes nothing.
+-- Questions 1 to 7 and 35: their answers as the code finds them, and asked in order. Assumes nothing.
 use mathlib.Core.Path.{_≡_, refl, sym, ap, ap₂, _∙_}
-use mathlib.Core.Bool.{Bool, true, false, _&&_}
-use mathlib.Core.List.{List, _∷_, map}
+use mathlib.Core.Bool.{Bool, true, false, _&&_, _||_}
+use mathlib.Core.List.{List, _∷_}
 use mathlib.Core.Option.{some}
-use Prim.Native.Nat.{ℕ, _+_, _-_, _*_, _≤_, _<_}
+use Prim.Native.Nat.{ℕ, _+_, _-_, _≤_, _<_}
 use native.Mathlib.Omega.{arith}
 use borrow.Author.Tests.{eq-eqb, ne-eqb, le-leb, lt-leb}
 use lib.Dec.{eqb, leb}
 use lib.ListN.{length, take, drop, getD}
-use Rattle.format.specs.Seq.{every, numbersFrom, total}
+use Rattle.format.specs.Seq.{every, numbersFrom}
 use Rattle.format.specs.Page.{numberAt}
-use Rattle.format.specs.Image.{bands, keyCount, pageCount, rootCount}
-use Rattle.format.specs.Question.{Question, firstNo, isZero, isPositive, markRight, countsFit, headerQuestions}
+use Rattle.format.specs.Image.{bands, versionOf, liftOf, keyCount, pageCount, rootCount}
+use Rattle.format.specs.Question.{Question, firstNo, isZero, isPositive, isLift, versionKnown, zerosRight, liftRight, countsFit, headerQuestions}
+use Rattle.format.proofs.Questions.{asked-yes, asked-no}
 use Rattle.format.proofs.Checked.{cond-yes, cond-no}
 use Rattle.header.specs.Refusal.{countsPositive}
 use Rattle.header.proofs.Turns.{every-yes, every-no, numbers-next, zero-counts}
 
--- ---- one question after another
+-- ---- 5, byte by byte, 3 and 35
 
-module _ (n : ℕ) (t : Bool) (qs : List Question) where
-  pub asked-yes : t ≡ true → firstNo ((n, t) ∷ qs) ≡ firstNo qs
-  unfolding firstNo
-  asked-yes e = rw e
+module _ (img : List ℕ) where
+  pub zeros-no : (getD img 5 0 ≡ 0 → ⊥) → false ≡ zerosRight img
+  unfolding zerosRight isZero
+  zeros-no h = sym (ap (λ (t : Bool). t && (eqb (versionOf img) 2 || eqb (numberAt img 40) 0) && every isZero (take 22 (drop 42 img))) (ne-eqb (getD img 5 0) 0 h))
 
-  pub asked-no : t ≡ false → firstNo ((n, t) ∷ qs) ≡ some n
-  unfolding firstNo
-  asked-no e = rw e
+  module _ (z : getD img 5 0 ≡ 0) where
+    zeros-rest : zerosRight img ≡ ((eqb (versionOf img) 2 || eqb (numberAt img 40) 0) && every isZero (take 22 (drop 42 img)))
+    unfolding zerosRight isZero
+    zeros-rest = ap (λ (t : Bool). t && (eqb (versionOf img) 2 || eqb (numberAt img 40) 0) && every isZero (take 22 (drop 42 img))) (eq-eqb (getD img 5 0) 0 z)
+
+    module _ (v : ℕ) (ev : v ≡ versionOf img) where
+      pub zeros-2 : v ≡ 2 → (t : Bool) → t ≡ every isZero (take 22 (drop 42 img)) → t ≡ zerosRight img
+      zeros-2 h t e = e ∙ sym (zeros-rest ∙ ap (λ (s : Bool). (s || eqb (numberAt img 40) 0) && every isZero (take 22 (drop 42 img))) (eq-eqb (versionOf img) 2 (sym ev ∙ h)))
+
+      module _ (h : v ≡ 2 → ⊥) (n : ℕ) (en : n ≡ numberAt img 40) where
+        zeros-1 : zerosRight img ≡ (eqb (numberAt img 40) 0 && every isZero (take 22 (drop 42 img)))
+        zeros-1 = zeros-rest ∙ ap (λ (s : Bool). (s || eqb (numberAt img 40) 0) && every isZero (take 22 (drop 42 img))) (ne-eqb (versionOf img) 2 (λ f. h (ev ∙ f)))
+
+        pub zeros-lift : (n ≡ 0 → ⊥) → false ≡ zerosRight img
+        zeros-lift f = sym (zeros-1 ∙ ap (_&& every isZero (take 22 (drop 42 img))) (ne-eqb (numberAt img 40) 0 (λ g. f (en ∙ g))))
+
+        pub zeros-none : n ≡ 0 → (t : Bool) → t ≡ every isZero (take 22 (drop 42 img)) → t ≡ zerosRight img
+        zeros-none f t e = e ∙ sym (zeros-1 ∙ ap (_&& every isZero (take 22 (drop 42 img))) (eq-eqb (numberAt img 40) 0 (sym en ∙ f)))
+
+module _ (img : List ℕ) (v : ℕ) (ev : v ≡ versionOf img) where
+  pub known-1 : v ≡ 1 → true ≡ versionKnown img
+  unfolding versionKnown
+  known-1 h = sym (ap (_|| eqb (versionOf img) 2) (eq-eqb (versionOf img) 1 (sym ev ∙ h)))
+
+  pub lift-1 : v ≡ 1 → true ≡ liftRight img
+  unfolding liftRight
+  lift-1 h = sym (ap (_|| isLift (liftOf img)) (eq-eqb (versionOf img) 1 (sym ev ∙ h)))
+
+  module _ (h : v ≡ 1 → ⊥) where
+    pub known-other : versionKnown img ≡ eqb (versionOf img) 2
+    unfolding versionKnown
+    known-other = ap (_|| eqb (versionOf img) 2) (ne-eqb (versionOf img) 1 (λ f. h (ev ∙ f)))
+
+    -- the lift is then the number at byte 40
+    pub lift-number : numberAt img 40 ≡ liftOf img
+    unfolding liftOf
+    lift-number = sym (cond-no (eqb (versionOf img) 1) 0 (numberAt img 40) (ne-eqb (versionOf img) 1 (λ f. h (ev ∙ f))))
+
+    lift-other : liftRight img ≡ (leb 1 (liftOf img) && leb (liftOf img) 999)
+    unfolding liftRight isLift
+    lift-other = ap (_|| (leb 1 (liftOf img) && leb (liftOf img) 999)) (ne-eqb (versionOf img) 1 (λ f. h (ev ∙ f)))
+
+    pub lift-none : (n : ℕ) → n ≡ liftOf img → n < 1 → false ≡ liftRight img
+    lift-none n e l = sym (lift-other ∙ ap (_&& leb (liftOf img) 999) (lt-leb 1 (liftOf img) (omega arith)))
+
+    pub lift-some : (m n : ℕ) → m ≡ liftOf img → 1 ≤ m → n ≡ liftOf img → leb n 999 ≡ liftRight img
+    lift-some m n em l e = sym (lift-other ∙ ap₂ (λ (s : Bool) (k : ℕ). s && leb k 999) (le-leb 1 (liftOf img) (omega arith)) (sym e))
 
 -- ---- 7
 
@@ -82,79 +127,16 @@ module _ (img : List ℕ) (k : ℕ) (ek : k ≡ keyCount img) where
             et
             ∙ sym (fit-some ∙ ap₂ (λ (s t : Bool). s && t && every (countsPositive img) (numbersFrom 2 7)) (eq-eqb (pageCount img 1) 1 (sym ep ∙ one)) (eq-eqb (rootCount img 1) 1 (sym er ∙ e)))
 
--- ---- 1 to 7
+-- ---- one question after another
 
 -- the first k questions got a yes
 abbrev pub Past : ℕ → List ℕ → Type 0
 Past k img = firstNo (headerQuestions img) ≡ firstNo (drop k (headerQuestions img))
 
-abbrev pub NoAt : ℕ → List ℕ → Type 0
-NoAt k img = some k ≡ firstNo (headerQuestions img)
+-- question n is the first of those left, and the code found the answer t
+module _ (n : ℕ) (t q : Bool) (qs rs : List Question) (p : firstNo qs ≡ firstNo ((n, q) ∷ rs)) (e : t ≡ q) where
+  pub no-to : t ≡ false → some n ≡ firstNo qs
+  no-to h = sym (p ∙ asked-no n q rs (sym e ∙ h))
 
-module _ (img : List ℕ) where
-  pub no-1 : length img < 64 → NoAt 1 img
-  unfolding headerQuestions
-  no-1 h = sym (asked-no 1 _ _ (lt-leb 64 (length img) h))
-
-  pub past-1 : 64 ≤ length img → Past 1 img
-  unfolding headerQuestions
-  past-1 h = asked-yes 1 _ _ (le-leb 64 (length img) h)
-
-  module _ (t : Bool) (e : t ≡ markRight img) (p : Past 1 img) where
-    pub no-2 : t ≡ false → NoAt 2 img
-    unfolding headerQuestions
-    no-2 h = sym (p ∙ asked-no 2 _ _ (sym e ∙ h))
-
-    pub past-2 : t ≡ true → Past 2 img
-    unfolding headerQuestions
-    past-2 h = p ∙ asked-yes 2 _ _ (sym e ∙ h)
-
-  module _ (n : ℕ) (e : n ≡ numberAt img 3) (p : Past 2 img) where
-    pub no-3 : (n ≡ 1 → ⊥) → NoAt 3 img
-    unfolding headerQuestions
-    no-3 h = sym (p ∙ asked-no 3 _ _ (ne-eqb (numberAt img 3) 1 (λ f. h (e ∙ f))))
-
-    pub past-3 : n ≡ 1 → Past 3 img
-    unfolding headerQuestions
-    past-3 h = p ∙ asked-yes 3 _ _ (eq-eqb (numberAt img 3) 1 (sym e ∙ h))
-
-  module _ (n : ℕ) (e : n ≡ keyCount img) (p : Past 3 img) where
-    pub no-4 : 4096 < n → NoAt 4 img
-    unfolding headerQuestions
-    no-4 h = sym (p ∙ asked-no 4 _ _ (lt-leb (keyCount img) 4096 (omega arith)))
-
-    pub past-4 : n ≤ 4096 → Past 4 img
-    unfolding headerQuestions
-    past-4 h = p ∙ asked-yes 4 _ _ (le-leb (keyCount img) 4096 (omega arith))
-
-  module _ (p : Past 4 img) where
-    pub no-5 : (getD img 5 0 ≡ 0 → ⊥) → NoAt 5 img
-    unfolding headerQuestions isZero
-    no-5 h = sym (p ∙ asked-no 5 _ _ (ap (_&& every isZero (take 24 (drop 40 img))) (ne-eqb (getD img 5 0) 0 h)))
-
-    module _ (z : getD img 5 0 ≡ 0) (t : Bool) (e : t ≡ every isZero (take 24 (drop 40 img))) where
-      pub no-5-later : t ≡ false → NoAt 5 img
-      unfolding headerQuestions isZero
-      no-5-later h = sym (p ∙ asked-no 5 _ _ (ap₂ _&&_ (eq-eqb (getD img 5 0) 0 z) (sym e ∙ h)))
-
-      pub past-5 : t ≡ true → Past 5 img
-      unfolding headerQuestions isZero
-      past-5 h = p ∙ asked-yes 5 _ _ (ap₂ _&&_ (eq-eqb (getD img 5 0) 0 z) (sym e ∙ h))
-
-  module _ (n : ℕ) (e : n ≡ total (map (pageCount img) bands)) (p : Past 5 img) where
-    pub no-6 : (length img ≡ 64 * (1 + n) → ⊥) → NoAt 6 img
-    unfolding headerQuestions
-    no-6 h = sym (p ∙ asked-no 6 _ _ (ne-eqb (length img) (64 * (1 + total (map (pageCount img) bands))) (λ f. h (omega arith))))
-
-    pub past-6 : length img ≡ 64 * (1 + n) → Past 6 img
-    unfolding headerQuestions
-    past-6 h = p ∙ asked-yes 6 _ _ (eq-eqb (length img) (64 * (1 + total (map (pageCount img) bands))) (omega arith))
-
-  module _ (t : Bool) (e : t ≡ countsFit img) (p : Past 6 img) where
-    pub no-7 : t ≡ false → NoAt 7 img
-    unfolding headerQuestions
-    no-7 h = sym (p ∙ asked-no 7 _ _ (sym e ∙ h))
-
-    pub past-7 : t ≡ true → Past 7 img
-    unfolding headerQuestions
-    past-7 h = p ∙ asked-yes 7 _ _ (sym e ∙ h)
+  pub yes-to : t ≡ true → firstNo qs ≡ firstNo rs
+  yes-to h = p ∙ asked-yes n q rs (sym e ∙ h)

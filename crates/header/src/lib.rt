@@ -1,12 +1,12 @@
-// The header's numbers, which every job reads through these functions, and questions 1 to 7.
+// The header's numbers, which every job reads through these functions, and questions 1 to 7 with 35.
 ghost use mathlib.Core.Path.{_≡_};
 ghost use mathlib.Core.List.{map};
 ghost use Prim.Native.Nat.{_+_, _-_, _%_, _≤_, _<_};
 ghost use lib.ListN.{length, take, drop};
 ghost use Rattle.format.specs.Seq.{every, numbersFrom, total};
 ghost use Rattle.format.specs.Page.{numberAt};
-ghost use Rattle.format.specs.Image.{bands, keyCount, pageCount, pageNumber, rootCount};
-ghost use Rattle.format.specs.Question.{isZero, markRight, countsFit, headerQuestions, firstNo};
+ghost use Rattle.format.specs.Image.{bands, versionOf, liftOf, keyCount, pageCount, pageNumber, rootCount};
+ghost use Rattle.format.specs.Question.{isZero, markRight, versionKnown, zerosRight, liftRight, countsFit, headerQuestions, firstNo};
 ghost use Rattle.header.specs.Refusal.{refusalOf, countsPositive};
 
 fn wide(byte: u8) -> usize
@@ -21,6 +21,25 @@ pub fn number(bytes: &[u8], at: usize) -> usize
     ensures { λ r. ⌜ (r ≡ numberAt (now (bytes .entry)) at) × (r < 65536) ⌝ }
 {
     256 * wide(bytes[at]) + wide(bytes[at + 1])
+}
+
+// The version.
+fn version(image: &[u8]) -> usize
+    requires { ⌜ 64 ≤ length (now image) ⌝ }
+    ensures { λ r. ⌜ (r ≡ versionOf (now (image .entry))) × (r < 65536) ⌝ }
+{
+    number(image, 3)
+}
+
+// The lift that the image is for, 0 in version 1.
+pub fn lift(image: &[u8]) -> usize
+    requires { ⌜ 64 ≤ length (now image) ⌝ }
+    ensures { λ r. ⌜ (r ≡ liftOf (now (image .entry))) × (r < 65536) ⌝ }
+{
+    if version(image) == 1 {
+        return 0;
+    }
+    number(image, 40)
 }
 
 // The key count.
@@ -76,17 +95,17 @@ pub fn first_page(image: &[u8], band: usize) -> usize
     first
 }
 
-// Whether the bytes from `from` up to `to`, eight at a time, are zero.
+// Whether the bytes from `from` up to `to`, two at a time, are zero.
 fn all_zero(bytes: &[u8], from: usize, to: usize) -> bool
-    requires { ⌜ (from ≤ to) × ((to - from) % 8 ≡ 0) × (to ≤ length (now bytes)) ⌝ }
+    requires { ⌜ (from ≤ to) × ((to - from) % 2 ≡ 0) × (to ≤ length (now bytes)) ⌝ }
     ensures { λ r. ⌜ r ≡ every isZero (take (to - from) (drop from (now (bytes .entry)))) ⌝ }
 {
     let mut i = from;
     while i < to {
-        if nodes::word(bytes, i) != 0 {
+        if number(bytes, i) != 0 {
             return false;
         }
-        i += 8;
+        i += 2;
     }
     true
 }
@@ -103,6 +122,49 @@ fn mark_right(image: &[u8]) -> bool
         return false;
     }
     image[2] == 0x54
+}
+
+// Question 3: whether the version is 1 or 2.
+fn version_known(image: &[u8]) -> bool
+    requires { ⌜ 64 ≤ length (now image) ⌝ }
+    ensures { λ r. ⌜ r ≡ versionKnown (now (image .entry)) ⌝ }
+{
+    if version(image) == 1 {
+        return true;
+    }
+    version(image) == 2
+}
+
+// Question 5: whether byte 5 and bytes 40 to 63 are zero, but for the lift of version 2.
+fn zeros_right(image: &[u8]) -> bool
+    requires { ⌜ 64 ≤ length (now image) ⌝ }
+    ensures { λ r. ⌜ r ≡ zerosRight (now (image .entry)) ⌝ }
+{
+    if image[5] != 0 {
+        return false;
+    }
+    if version(image) == 2 {
+        return all_zero(image, 42, 64);
+    }
+    if number(image, 40) != 0 {
+        return false;
+    }
+    all_zero(image, 42, 64)
+}
+
+// Question 35: whether the lift of version 2 is 1 to 999.
+fn lift_right(image: &[u8]) -> bool
+    requires { ⌜ 64 ≤ length (now image) ⌝ }
+    ensures { λ r. ⌜ r ≡ liftRight (now (image .entry)) ⌝ }
+{
+    let names_none = version(image) == 1;
+    if names_none {
+        return true;
+    }
+    if lift(image) < 1 {
+        return false;
+    }
+    lift(image) <= 999
 }
 
 // Whether the counts of bands 2 to 8 are all at least 1.
@@ -140,7 +202,7 @@ fn counts_fit(image: &[u8]) -> bool
     counts_positive(image)
 }
 
-// The number of the first question of 1 to 7 that gets a no, 0 where none does.
+// The number of the first question of 1 to 5, 35, 6 and 7 that gets a no, 0 where none does.
 pub fn header_refusal(image: &[u8]) -> u8
     ensures { λ r. ⌜ refusalOf r ≡ firstNo (headerQuestions (now (image .entry))) ⌝ }
 {
@@ -150,17 +212,17 @@ pub fn header_refusal(image: &[u8]) -> u8
     if !mark_right(image) {
         return 2;
     }
-    if number(image, 3) != 1 {
+    if !version_known(image) {
         return 3;
     }
     if 4096 < key_count(image) {
         return 4;
     }
-    if image[5] != 0 {
+    if !zeros_right(image) {
         return 5;
     }
-    if !all_zero(image, 40, 64) {
-        return 5;
+    if !lift_right(image) {
+        return 35;
     }
     if image.len() != 64 * (1 + total_pages(image)) {
         return 6;

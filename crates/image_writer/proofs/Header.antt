@@ -2,14 +2,14 @@
 -- Assumes nothing.
 use mathlib.Core.Path.{_≡_, refl, sym, ap, ap₂, _∙_}
 use mathlib.Core.List.{List, [], _∷_, _++_, append-assoc, append-nil, flatMap}
-use Prim.Native.Nat.{ℕ, _+_, _*_, _≤_, _<_}
+use Prim.Native.Nat.{ℕ, _+_, _*_, _/_, _%_, _≤_, _<_}
 use native.Mathlib.Numerals.{add-one}
 use native.Mathlib.Omega.{arith}
 use lib.ListN.{length, getD, take, drop, set, replicate, length-append, length-drop, take-append-drop}
 use lib.Seq.{take-at, take-all, take-suc, drop-at, drop-drop, length-take-le}
 use Rattle.format.specs.Page.{twoBytes}
-use Rattle.format.specs.Header.{header, headerEnd, headerStart, mark}
-use Rattle.format.proofs.HeaderBytes.{length-start, length-two}
+use Rattle.format.specs.Header.{header, headerEnd, headerStart, mark, versionFor}
+use Rattle.format.proofs.HeaderBytes.{length-start, length-two, version-small}
 
 -- what is done, and then xs in place of the next k elements of l
 extended : (done l xs : List ℕ) (n k : ℕ) → length done ≡ n → take n (done ++ drop n l) ++ (xs ++ drop (n + k) (done ++ drop n l)) ≡ (done ++ xs) ++ drop (n + k) l
@@ -23,15 +23,18 @@ flat-more [] x = refl
 flat-more (y ∷ l) x = ap (twoBytes y ++_) (flat-more l x)
 
 -- the first six bytes stored one after the other
-pub start-stored : (l : List ℕ) → 64 ≤ length l → set (set (set (set (set (set l 0 0x4C) 1 0x50) 2 0x54) 3 0) 4 1) 5 0 ≡ headerStart ++ drop 6 l
+pub start-stored : (lift v : ℕ) → v ≡ versionFor lift → (l : List ℕ) → 64 ≤ length l → set (set (set (set (set (set l 0 0x4C) 1 0x50) 2 0x54) 3 0) 4 v) 5 0 ≡ headerStart lift ++ drop 6 l
 unfolding headerStart mark twoBytes
-start-stored [] h = absurd (omega arith)
-start-stored (a ∷ []) h = absurd (omega arith)
-start-stored (a ∷ b ∷ []) h = absurd (omega arith)
-start-stored (a ∷ b ∷ c ∷ []) h = absurd (omega arith)
-start-stored (a ∷ b ∷ c ∷ d ∷ []) h = absurd (omega arith)
-start-stored (a ∷ b ∷ c ∷ d ∷ e ∷ []) h = absurd (omega arith)
-start-stored (a ∷ b ∷ c ∷ d ∷ e ∷ f ∷ l) h = refl
+start-stored lift v e [] h = absurd (omega arith)
+start-stored lift v e (a ∷ []) h = absurd (omega arith)
+start-stored lift v e (a ∷ b ∷ []) h = absurd (omega arith)
+start-stored lift v e (a ∷ b ∷ c ∷ []) h = absurd (omega arith)
+start-stored lift v e (a ∷ b ∷ c ∷ d ∷ []) h = absurd (omega arith)
+start-stored lift v e (a ∷ b ∷ c ∷ d ∷ f ∷ []) h = absurd (omega arith)
+start-stored lift v e (a ∷ b ∷ c ∷ d ∷ f ∷ g ∷ l) h =
+    let hi : 0 ≡ versionFor lift / 256 = omega (arith, version-small lift) in
+    let lo : v ≡ versionFor lift % 256 = omega (arith, version-small lift) in
+    λ i. 0x4C ∷ 0x50 ∷ 0x54 ∷ hi i ∷ lo i ∷ 0 ∷ l
 
 two : (n : ℕ) → length (twoBytes n) ≡ 2
 unfolding twoBytes
@@ -73,21 +76,24 @@ module _ (out₀ counts out : List ℕ) (i : ℕ) (s : Headed out₀ counts out 
         same = omega (arith, ap length d, length-append (take 8 out₀ ++ flatMap twoBytes (take (i + 1) counts)) (drop (8 + 2 * (i + 1)) out₀), length-append (take 8 out₀) (flatMap twoBytes (take (i + 1) counts)), length-take-le 8 out₀ (omega (arith, s .room)), length-two (take (i + 1) counts), length-take-le (i + 1) counts (omega (arith, s .sixteen)), length-drop (8 + 2 * (i + 1)) out₀, s .room);
       }
 
-  pub headed-end : (entry begun out′ : List ℕ) (n : ℕ) → begun ≡ headerStart ++ drop 6 entry → out₀ ≡ take 6 begun ++ (twoBytes n ++ drop 8 begun)
-      → 16 ≤ i → out′ ≡ take 40 out ++ (replicate 24 0 ++ drop 64 out) → out′ ≡ header n counts ++ drop 64 entry
+  pub headed-end : (entry begun out₁ out′ : List ℕ) (lift n : ℕ) → begun ≡ headerStart lift ++ drop 6 entry → out₀ ≡ take 6 begun ++ (twoBytes n ++ drop 8 begun)
+      → 16 ≤ i → out₁ ≡ take 40 out ++ (twoBytes lift ++ drop 42 out) → out′ ≡ take 42 out₁ ++ (replicate 22 0 ++ drop 64 out₁) → out′ ≡ header lift n counts ++ drop 64 entry
   unfolding header headerEnd
-  headed-end entry begun out′ n start number h e =
+  headed-end entry begun out₁ out′ lift n start number h e₁ e =
       let k : 8 + 2 * i ≡ 40 = omega (arith, s .within) in
       let c : take i counts ≡ counts = take-all i counts (omega (arith, s .sixteen)) in
-      let eight : List ℕ = headerStart ++ twoBytes n in
-      let long : length eight ≡ 8 = length-append headerStart (twoBytes n) ∙ omega (arith, length-start, two n) in
-      let o : out₀ ≡ eight ++ drop 8 entry = number ∙ ap (λ (l : List ℕ). take 6 l ++ (twoBytes n ++ drop 8 l)) start ∙ extended headerStart entry (twoBytes n) 6 2 length-start in
+      let eight : List ℕ = headerStart lift ++ twoBytes n in
+      let long : length eight ≡ 8 = length-append (headerStart lift) (twoBytes n) ∙ omega (arith, length-start lift, two n) in
+      let o : out₀ ≡ eight ++ drop 8 entry = number ∙ ap (λ (l : List ℕ). take 6 l ++ (twoBytes n ++ drop 8 l)) start ∙ extended (headerStart lift) entry (twoBytes n) 6 2 (length-start lift) in
       let first : take 8 out₀ ≡ eight = ap (take 8) o ∙ take-at eight (drop 8 entry) 8 long in
       let rest : drop 64 out₀ ≡ drop 64 entry = sym (drop-drop 56 8 out₀) ∙ ap (drop 56) (ap (drop 8) o ∙ drop-at eight (drop 8 entry) 8 long) ∙ drop-drop 56 8 entry in
       let done : List ℕ = take 8 out₀ ++ flatMap twoBytes counts in
       let d : out ≡ done ++ drop 40 out₀ = s .done ∙ ap₂ (λ (a : List ℕ) (j : ℕ). (take 8 out₀ ++ flatMap twoBytes a) ++ drop j out₀) c k in
       let z : length done ≡ 40 = ap (λ (a : List ℕ). length (take 8 out₀ ++ flatMap twoBytes a)) (sym c) ∙ done-length ∙ k in
+      let d₁ : out₁ ≡ (done ++ twoBytes lift) ++ drop 42 out₀ = e₁ ∙ ap (λ (l : List ℕ). take 40 l ++ (twoBytes lift ++ drop 42 l)) d ∙ extended done out₀ (twoBytes lift) 40 2 z in
+      let z₁ : length (done ++ twoBytes lift) ≡ 42 = omega (arith, length-append done (twoBytes lift), two lift) in
       e
-      ∙ ap (λ (l : List ℕ). take 40 l ++ (headerEnd ++ drop 64 l)) d
-      ∙ extended done out₀ headerEnd 40 24 z
-      ∙ ap₂ (λ (a b : List ℕ). ((a ++ flatMap twoBytes counts) ++ headerEnd) ++ b) first rest
+      ∙ ap (λ (l : List ℕ). take 42 l ++ (replicate 22 0 ++ drop 64 l)) d₁
+      ∙ extended (done ++ twoBytes lift) out₀ (replicate 22 0) 42 22 z₁
+      ∙ ap (_++ drop 64 out₀) (append-assoc done (twoBytes lift) (replicate 22 0))
+      ∙ ap₂ (λ (a b : List ℕ). ((a ++ flatMap twoBytes counts) ++ headerEnd lift) ++ b) first rest

@@ -61,7 +61,7 @@ pub record Kept (keys₀ keys counts : List ℕ) (n b : ℕ) : Type 0 where
 -- the pages of an image by format's bound
 pages-bounded : (keys : List ℕ) → Prefixes keys → Fits 32 keys → pagesIn keys ≤ 384
 unfolding pagesIn
-pages-bounded keys p fits = omega (arith, pages-summed keys, page-bound .of-list keys fits (p .few) (p .ordered) .all-bands)
+pages-bounded keys p fits = omega (arith, pages-summed keys, page-bound .of-list 0 keys fits (p .few) (p .ordered) .all-bands)
 
 -- the bands above the first n of keys, b of them, are left
 pub record Planning (keys₀ keys counts : List ℕ) (pages n b : ℕ) : Type 0 where
@@ -239,9 +239,9 @@ module _ (keys₀ keys counts : List ℕ) (pages n b : ℕ) (s : Planning keys�
           sum : pages + r .pages ≡ total (map pageCount (bandAbove (take n keys) ∷ s .done))
           sum = unfold total in omega (arith, s .pages-are, pages-is)
 
-pub planning-end : (keys₀ keys counts : List ℕ) (pages n b : ℕ) → Planning keys₀ keys counts pages n b → b ≤ 0 → FirstPass keys₀ keys (record { refusal = 0; counts = counts; pages = pages })
+pub planning-end : (lift : ℕ) (keys₀ keys counts : List ℕ) (pages n b : ℕ) → Planning keys₀ keys counts pages n b → b ≤ 0 → FirstPass lift keys₀ keys (record { refusal = 0; lift = lift; counts = counts; pages = pages })
 unfolding countsOf pagesIn usedUp
-planning-end keys₀ keys counts pages n b s none =
+planning-end lift keys₀ keys counts pages n b s none =
     let z : b ≡ 0 = omega arith in
     let d : bandsOf keys₀ ≡ s .done = s .bands-are ∙ ap (λ (k : ℕ). bandsUp k (take n keys) ++ s .done) z in
     let sum : pages ≡ total (map pageCount (bandsOf keys₀)) = s .pages-are ∙ ap (λ (l : List (List (List ℕ))). total (map pageCount l)) (sym d) in
@@ -252,6 +252,7 @@ planning-end keys₀ keys counts pages n b s none =
         few = omega (arith, sum, s .pages-few);
       };
       no-refusal = refl;
+      lift-is = refl;
       used-few = s .kept .some (omega arith);
       kept = s .kept .rest (omega arith);
     }

@@ -17,8 +17,6 @@ use Rattle.format.specs.Question.{Question, Outcome, refused, returns, filled, 
 use Rattle.format.specs.Answer.{bufferAfterListing, check, count, find, listing, lookup, lookupAnswer, memberKeys, placesQuestion, rectangleQuestion}
 use Rattle.format.proofs.Accepted.{facts}
 use Rattle.format.proofs.Lookup.{place-none}
-use Rattle.checker.specs.declared.Checked.{Checked}
-use Rattle.checker.specs.Outcomes.{outcomeOf}
 use Rattle.checker.proofs.After.{refused-no, refused-job, returned-count, accepted-image, accepted-job}
 use Rattle.query.specs.declared.Presence.{Presence}
 use Rattle.query.specs.declared.Presence.the-variants.{Listed, Absent, Refused}
@@ -26,16 +24,6 @@ use Rattle.query.specs.Way.{FoundRight}
 use Rattle.query.specs.Outcomes.{lookupOutcome, NoPages}
 use Rattle.walk.specs.Walk.{Listed as QListed}
 use Rattle.walk.proofs.Places.{written-all}
-
--- ---- the checker's answer
-
-pub answer-refused : (img : List ℕ) (n : ℕ) {answer : Checked} → outcomeOf answer ≡ check img → answer ≡ Checked.Refused n → refused n ≡ check img
-unfolding outcomeOf
-answer-refused img n e f = sym (ap outcomeOf f) ∙ e
-
-pub answer-accepted : (img : List ℕ) (n : ℕ) {answer : Checked} → outcomeOf answer ≡ check img → answer ≡ Checked.Accepted n → returns n ≡ check img
-unfolding outcomeOf
-answer-accepted img n e f = sym (ap outcomeOf f) ∙ e
 
 -- one question, and two
 one-yes : {A : Type 0} (q : Question) (a : A) → q .1 ≡ true → settle (q ∷ []) a ≡ returns a

@@ -1,4 +1,4 @@
-// Damaged images. One that is still accepted must be the exact image of its list.
+// Damaged images. One that is still accepted must be the exact image of its list and its lift.
 use crate::ask::member_count;
 use crate::ask::pick;
 use crate::tally::ACCEPTED;
@@ -20,10 +20,18 @@ pub fn length_of(written: Written) -> usize {
     }
 }
 
-// Whether the writer makes this image of the keys.
+// The lift that the checker says; 65,536 where it refuses.
+pub fn lift_of(image: &[u8]) -> u32 {
+    match checker::lift(image) {
+        Checked::Accepted(n) => (n % 65536) as u32,
+        Checked::Refused(_) => 65536,
+    }
+}
+
+// Whether the writer makes this image of the keys, for its lift.
 fn is_image(keys: &[u32], image: &[u8]) -> bool {
     let mut out = [0u8; format::MOST_BYTES];
-    let length = length_of(writer::write_keys(keys, &mut out));
+    let length = length_of(writer::write_either(keys, lift_of(image), &mut out));
     if length != image.len() {
         return false;
     }

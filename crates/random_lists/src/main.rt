@@ -1,5 +1,5 @@
-// A test: lists of many shapes from a generator with a fixed seed are written, read back by every job, and held against the plain reader of a sorted
-// array; their images are damaged, and one that is still accepted must be the exact image of its list. Prints what was compared, and the differences.
+// A test: lists of many shapes from a generator with a fixed seed are written for several lifts, read back by every job, and held against the plain
+// reader of a sorted array; their images are damaged, and one that is still accepted must be the exact image of its list. Prints what was compared, and the differences.
 mod ask;
 mod damage;
 mod pairs;
@@ -11,44 +11,46 @@ use tally::Tally;
 use tally::expect;
 use testing::Random;
 
-// All jobs on the image of a list.
-fn read(tally: Tally, keys: &[u32], image: &[u8], seed: Random) -> Tally {
+// All jobs on the image of a list for a lift.
+fn read(tally: Tally, keys: &[u32], lift: u32, image: &[u8], seed: Random) -> Tally {
     let mut t = ask::whole(tally, keys, image);
     t = ask::ask(t, keys, image, seed);
     t = pairs::pairs(t, keys, image, seed);
-    scans::scans(t, keys, image, seed)
+    scans::scans(t, keys, lift, image, seed)
 }
 
 // The same, and its damaged images.
-fn compare(tally: Tally, keys: &[u32], image: &mut [u8], seed: Random) -> Tally {
-    let t = read(tally, keys, image, seed);
+fn compare(tally: Tally, keys: &[u32], lift: u32, image: &mut [u8], seed: Random) -> Tally {
+    let t = read(tally, keys, lift, image, seed);
     damage::damage(t, image, seed)
 }
 
-// Writes the image of the keys, and compares.
-fn compare_list(tally: Tally, keys: &[u32], seed: Random) -> Tally {
+// Writes the image of the keys for a lift, 0 for version 1, and compares.
+fn compare_list(tally: Tally, keys: &[u32], lift: u32, seed: Random) -> Tally {
     let mut image = [0u8; format::MOST_BYTES];
-    let length = damage::length_of(writer::write_keys(keys, &mut image));
+    let length = damage::length_of(writer::write_either(keys, lift, &mut image));
     if length < 64 {
         return expect(tally, LISTS, false);
     }
     if format::MOST_BYTES < length {
         return expect(tally, LISTS, false);
     }
+    let is_right = damage::lift_of(&image[0..length]) == lift;
     compare(
-        expect(tally, LISTS, true),
+        expect(tally, LISTS, is_right),
         keys,
+        lift,
         &mut image[0..length],
         seed,
     )
 }
 
 // The list of the first `n` keys.
-fn list(tally: Tally, keys: &[u32], n: usize, seed: Random) -> Tally {
+fn list(tally: Tally, keys: &[u32], n: usize, lift: u32, seed: Random) -> Tally {
     if keys.len() < n {
         return expect(tally, LISTS, false);
     }
-    compare_list(tally, &keys[0..n], seed)
+    compare_list(tally, &keys[0..n], lift, seed)
 }
 
 // Lists of several sizes with keys 1 to `gap` apart.
@@ -67,12 +69,12 @@ fn clustered(name: &[u8], season: u32, each: u32, state: u64) -> u32 {
     sizes(name, &keys, n, seed)
 }
 
-// The list of all keys, and of fewer.
+// The list of all keys, and of fewer, each for another lift; one in version 1.
 fn sizes(name: &[u8], keys: &[u32], n: usize, seed: Random) -> u32 {
-    let mut t = list(tally::none(), keys, n, seed);
-    t = list(t, keys, n / 3, seed);
-    t = list(t, keys, n / 50, seed);
-    t = list(t, keys, n / 2000, seed);
+    let mut t = list(tally::none(), keys, n, 999, seed);
+    t = list(t, keys, n / 3, 0, seed);
+    t = list(t, keys, n / 50, 258, seed);
+    t = list(t, keys, n / 2000, 1, seed);
     tally::say(t, name);
     tally::differences(t)
 }

@@ -1,4 +1,4 @@
-// Pairs of lists that differ only outside a rectangle must list alike inside it.
+// Pairs of lists that differ only outside a rectangle must list alike inside it, whatever their versions and lifts.
 use crate::ask::at_rank;
 use crate::ask::member_count;
 use crate::ask::pick;
@@ -56,14 +56,14 @@ fn list_alike(image: &[u8], other: &[u8], asked: Rectangle) -> bool {
     starts_with(&a, &b)
 }
 
-// Writes the image of a thinned list. Returns its length, or 0.
+// Writes the image of a thinned list, for a lift of its own. Returns its length, or 0.
 fn write_thinned(keys: &[u32], asked: Rectangle, seed: Random, out: &mut [u8]) -> usize {
     let mut thinned = [0u32; 4096];
     let n = thin(keys, asked, seed, &mut thinned);
     if 4096 < n {
         return 0;
     }
-    length_of(writer::write_keys(&thinned[0..n], out))
+    length_of(writer::write_keys(&thinned[0..n], 77, out))
 }
 
 // Whether a list and its thinned list are alike inside the rectangle.

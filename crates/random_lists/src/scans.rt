@@ -16,6 +16,8 @@ struct Card {
     slot: u16,
     time: u32,
     lockout: u32,
+    // The gate's.
+    lift: u32,
 }
 
 // The number of the refusal that a record asks for, or 0.
@@ -40,8 +42,11 @@ fn rank_of(keys: &[u32], card: Card) -> usize {
     if is_at(keys, rank, key) { rank } else { 65536 }
 }
 
-// The plain rule: the number of the refusal, or 0 and the opening is recorded.
-fn rule(records: &mut [u32], rank: usize, card: Card) -> u8 {
+// The plain rule: the number of the refusal, or 0 and the opening is recorded. `lift` is the image's.
+fn rule(records: &mut [u32], rank: usize, card: Card, lift: u32) -> u8 {
+    if lift != 0 && lift != card.lift {
+        return 36;
+    }
     if records.len() <= rank {
         return 24;
     }
@@ -72,6 +77,7 @@ fn is_scanned(image: &[u8], records: &mut [u32], card: Card, rank: usize, refusa
         card.slot,
         card.time,
         card.lockout,
+        card.lift,
     );
     is_answer(scanned, refusal, rank)
 }
@@ -79,13 +85,14 @@ fn is_scanned(image: &[u8], records: &mut [u32], card: Card, rank: usize, refusa
 // Whether a scan gets the rule's answer, and leaves the records that the rule leaves.
 fn is_right(
     keys: &[u32],
+    lift: u32,
     image: &[u8],
     records: &mut [u32],
     expected: &mut [u32],
     card: Card,
 ) -> bool {
     let rank = rank_of(keys, card);
-    let refusal = rule(expected, rank, card);
+    let refusal = rule(expected, rank, card, lift);
     if !is_scanned(image, records, card, rank, refusal) {
         return false;
     }
@@ -119,14 +126,20 @@ fn slot_of(slot: u16, turn: u32) -> u16 {
     if turn % 5 == 4 { slot ^ 4 } else { slot }
 }
 
+// The image's lift, or on each thirteenth turn another.
+fn gate_of(lift: u32, turn: u32) -> u32 {
+    if turn % 13 == 12 { lift ^ 8 } else { lift }
+}
+
 // The card of a rank, or one beside it.
-fn card_of(image: &[u8], rank: usize, turn: u32, random: Random) -> Card {
+fn card_of(image: &[u8], lift: u32, rank: usize, turn: u32, random: Random) -> Card {
     let a = at_rank(image, rank);
     Card {
         holder: a.holder,
         slot: slot_of(a.slot, turn),
         time: time_of(turn, random),
         lockout: lockout_of(turn),
+        lift: gate_of(lift, turn),
     }
 }
 
@@ -134,6 +147,7 @@ fn card_of(image: &[u8], rank: usize, turn: u32, random: Random) -> Card {
 fn scan_row(
     tally: Tally,
     keys: &[u32],
+    lift: u32,
     image: &[u8],
     records: &mut [u32],
     expected: &mut [u32],
@@ -146,15 +160,19 @@ fn scan_row(
         random = testing::next(random);
         let rank = pick_rank(random, keys.len());
         random = testing::next(random);
-        let card = card_of(image, rank, i, random);
-        t = expect(t, SCANS, is_right(keys, image, records, expected, card));
+        let card = card_of(image, lift, rank, i, random);
+        t = expect(
+            t,
+            SCANS,
+            is_right(keys, lift, image, records, expected, card),
+        );
         i += 1;
     }
     t
 }
 
 // The same with records that were never opened.
-pub fn scans(tally: Tally, keys: &[u32], image: &[u8], seed: Random) -> Tally {
+pub fn scans(tally: Tally, keys: &[u32], lift: u32, image: &[u8], seed: Random) -> Tally {
     let mut records = [0u32; 4097];
     let mut expected = [0u32; 4097];
     if 4096 < keys.len() {
@@ -164,6 +182,7 @@ pub fn scans(tally: Tally, keys: &[u32], image: &[u8], seed: Random) -> Tally {
     scan_row(
         tally,
         keys,
+        lift,
         image,
         &mut records[0..n],
         &mut expected[0..n],

@@ -3,39 +3,39 @@
 use testing::line_end;
 use testing::one_more;
 
-// Places 1 to 26 count the damaged images by the number that refused them; the places after them have the names below.
+// Places 1 to 40 count the damaged images by the number that refused them; the places after them have the names below.
 pub struct Tally {
-    pub counts: [u32; 40],
+    pub counts: [u32; 51],
 }
 
-pub const LISTS: usize = 30;
+pub const LISTS: usize = 41;
 
-pub const LOOKUPS: usize = 31;
+pub const LOOKUPS: usize = 42;
 
-pub const COUNTS: usize = 32;
+pub const COUNTS: usize = 43;
 
-pub const LISTINGS: usize = 33;
+pub const LISTINGS: usize = 44;
 
-pub const FINDS: usize = 34;
+pub const FINDS: usize = 45;
 
-pub const SCANS: usize = 35;
+pub const SCANS: usize = 46;
 
-pub const PAIRS: usize = 36;
+pub const PAIRS: usize = 47;
 
-pub const DAMAGED: usize = 37;
+pub const DAMAGED: usize = 48;
 
-pub const ACCEPTED: usize = 38;
+pub const ACCEPTED: usize = 49;
 
-pub const DIFFERENCES: usize = 39;
+pub const DIFFERENCES: usize = 50;
 
 pub fn none() -> Tally {
-    Tally { counts: [0u32; 40] }
+    Tally { counts: [0u32; 51] }
 }
 
 // One more at a place.
 pub fn note(tally: Tally, place: usize) -> Tally {
     let mut counts = tally.counts;
-    if 40 <= place {
+    if 51 <= place {
         return tally;
     }
     counts[place] = one_more(counts[place]);
@@ -104,7 +104,7 @@ fn say_refused(n: usize, count: u32) {
 fn say_refusals(tally: Tally) {
     let counts = tally.counts;
     let mut n: usize = 1;
-    while n < 27 {
+    while n < 41 {
         say_refused(n, counts[n]);
         n += 1;
     }

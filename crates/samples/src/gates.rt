@@ -1,4 +1,4 @@
-// The gate's scans: the lockout rows of the paper, and questions 21 to 26 on both sides of their edges.
+// The gate's scans of a version 1 image, which passes at any lift's gate: the lockout rows of the paper, and questions 21 to 26 on both sides of their edges.
 use crate::images::all_numbers;
 use crate::images::two_keys;
 use crate::say::Tally;
@@ -52,7 +52,7 @@ fn scan_case(door: Door, names: &[u8], asked: Scan, after: [u32; 3]) -> Door {
 // Whether a scan gets its answer.
 fn is_scanned(records: &mut [u32], asked: Scan) -> bool {
     let image = two_keys();
-    let scanned = gate::scan(&image, records, 0, asked.slot, asked.time, asked.lockout);
+    let scanned = gate::scan(&image, records, 0, asked.slot, asked.time, asked.lockout, 7);
     is_answer(scanned, asked.refusal, asked.number)
 }
 

@@ -1,11 +1,11 @@
-// Lists and images that the cases start from, and ways to look at buffers.
+// Lists and images that the cases start from, in version 1, and ways to look at buffers.
 use writer::Written;
 
 // The image of the empty list.
 pub fn no_key() -> [u8; 64] {
     let mut image = [0u8; 64];
     let keys = [0u32; 1];
-    writer::write_keys(&keys[0..0], &mut image);
+    writer::write_either(&keys[0..0], 0, &mut image);
     image
 }
 
@@ -13,7 +13,7 @@ pub fn no_key() -> [u8; 64] {
 pub fn one_key() -> [u8; 576] {
     let mut image = [0u8; 576];
     let keys = [0u32; 1];
-    writer::write_keys(&keys, &mut image);
+    writer::write_either(&keys, 0, &mut image);
     image
 }
 
@@ -28,10 +28,15 @@ pub fn with_byte(at: usize, byte: u8) -> [u8; 576] {
 
 // The image of the keys 0 and 1, plate 9.
 pub fn two_keys() -> [u8; 576] {
+    image_for(0)
+}
+
+// The same for a lift, 0 for version 1.
+pub fn image_for(lift: u32) -> [u8; 576] {
     let mut image = [0u8; 576];
     let mut keys = [0u32; 2];
     keys[1] = 1;
-    writer::write_keys(&keys, &mut image);
+    writer::write_either(&keys, lift, &mut image);
     image
 }
 
@@ -55,7 +60,7 @@ pub fn steps_image(step: u32, n: usize) -> [u8; 640] {
     if 4097 < n {
         return image;
     }
-    writer::write_keys(&keys[0..n], &mut image);
+    writer::write_either(&keys[0..n], 0, &mut image);
     image
 }
 
@@ -95,7 +100,7 @@ pub fn five_nodes() -> [u32; 4097] {
 pub fn needed_page() -> [u8; 640] {
     let keys = five_nodes();
     let mut image = [0u8; 640];
-    writer::write_keys(&keys[0..61], &mut image);
+    writer::write_either(&keys[0..61], 0, &mut image);
     image
 }
 

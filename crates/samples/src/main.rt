@@ -3,6 +3,7 @@
 mod gates;
 mod images;
 mod judge;
+mod lifts;
 mod plates;
 mod questions;
 mod refusals;
@@ -28,5 +29,10 @@ fn main() {
     tally = gates::lockouts(tally);
     tally = gates::wrong_lengths(tally);
     tally = gates::limits(tally);
+    tally = lifts::headers(tally);
+    tally = lifts::writers(tally);
+    tally = lifts::images(tally);
+    tally = lifts::gates(tally);
+    tally = lifts::gate_order(tally);
     say::count(tally);
 }

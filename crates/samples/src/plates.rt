@@ -39,7 +39,7 @@ fn are_heads(image: &[u8]) -> bool {
 fn dense_image() -> [u8; 1600] {
     let keys = steps(1);
     let mut image = [0xeeu8; 1600];
-    let length = length_of(writer::write_keys(&keys[0..4096], &mut image));
+    let length = length_of(writer::write_keys(&keys[0..4096], 1, &mut image));
     // A wrong length shows in the byte that the case of the length looks at.
     if length != 1536 {
         image[1599] = 0;
@@ -107,7 +107,7 @@ fn is_parted(keys: &[u32], n: usize, pages: u32, roots: u32, root: u32, link: u3
         return false;
     }
     let mut image = [0u8; 1024];
-    writer::write_keys(&keys[0..n], &mut image);
+    writer::write_keys(&keys[0..n], 1, &mut image);
     has_counts(&image, pages, roots, root, link)
 }
 
@@ -136,7 +136,7 @@ pub fn packings(tally: Tally) -> Tally {
 fn far_apart_image() -> [u8; MOST_BYTES] {
     let keys = steps(1048576);
     let mut image = [0xeeu8; MOST_BYTES];
-    let length = length_of(writer::write_keys(&keys[0..4096], &mut image));
+    let length = length_of(writer::write_keys(&keys[0..4096], 1, &mut image));
     // A wrong length shows in the byte that the case of the length looks at.
     if length != 23296 {
         image[MOST_BYTES - 1] = 0;

@@ -1,6 +1,7 @@
 // Questions 14 to 20, and the answers beside them.
 use crate::images::all_bytes;
 use crate::images::all_numbers;
+use crate::images::image_for;
 use crate::images::length_of;
 use crate::images::refusal_of;
 use crate::images::steps;
@@ -23,7 +24,7 @@ use testing::whole_square;
 // Whether the writer refuses the keys with `n` and leaves the buffer as lent.
 fn is_refused(keys: &[u32], n: u8) -> bool {
     let mut out = [0xeeu8; 2000];
-    let refusal = refusal_of(writer::write_keys(keys, &mut out));
+    let refusal = refusal_of(writer::write_keys(keys, 999, &mut out));
     if refusal != n {
         return false;
     }
@@ -72,7 +73,7 @@ pub fn lists(tally: Tally) -> Tally {
 // 575 bytes for 576.
 fn short_buffer(tally: Tally, names: &[u8]) -> Tally {
     let mut out = [0xeeu8; 575];
-    let refusal = refusal_of(writer::write_keys(&[0u32; 1], &mut out));
+    let refusal = refusal_of(writer::write_keys(&[0u32; 1], 1, &mut out));
     let t = case(tally, names, refusal == 17);
     case(t, names, all_bytes(&out, 0xee))
 }
@@ -85,7 +86,7 @@ pub fn buffers(tally: Tally) -> Tally {
         17: 576 bytes for 576\n";
     let t = short_buffer(tally, names);
     let mut out = [0xeeu8; 576];
-    let length = length_of(writer::write_keys(&[0u32; 1], &mut out));
+    let length = length_of(writer::write_keys(&[0u32; 1], 1, &mut out));
     case(t, names, length == 576)
 }
 
@@ -93,7 +94,7 @@ pub fn buffers(tally: Tally) -> Tally {
 fn equal_admissions(tally: Tally, names: &[u8]) -> Tally {
     let list = [Admission { holder: 0, slot: 0 }; 4096];
     let mut out = [0xeeu8; 576];
-    let refusal = refusal_of(writer::write_first(list, 2, &mut out));
+    let refusal = refusal_of(writer::write_first(list, 2, 7, &mut out));
     let t = case(tally, names, refusal == 15);
     case(t, names, all_bytes(&out, 0xee))
 }
@@ -109,9 +110,9 @@ pub fn admissions(tally: Tally) -> Tally {
     let mut list = [Admission { holder: 0, slot: 0 }; 4096];
     list[1] = Admission { holder: 0, slot: 1 };
     let mut out = [0xeeu8; 576];
-    let length = length_of(writer::write_first(list, 2, &mut out));
+    let length = length_of(writer::write_first(list, 2, 7, &mut out));
     t = case(t, names, length == 576);
-    case(t, names, starts_with_bytes(&out, &two_keys()))
+    case(t, names, starts_with_bytes(&out, &image_for(7)))
 }
 
 // Whether count and listing are refused with `n`, and the listing leaves the buffer as lent.

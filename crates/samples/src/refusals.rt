@@ -1,4 +1,4 @@
-// Images that questions 1 to 13 refuse, and images at the other side of the same edges.
+// Version 1 images that questions 1 to 13 refuse, and images at the other side of the same edges.
 use crate::images::early_page;
 use crate::images::needed_page;
 use crate::images::one_key;
@@ -20,7 +20,7 @@ pub fn headers(tally: Tally) -> Tally {
         2: first byte of the mark\n\
         2: last byte of the mark\n\
         3: version 0\n\
-        3: version 2\n\
+        3: version 3\n\
         3: version 257\n\
         4: key count 4,096 goes on to 13\n\
         4: key count 4,097\n\
@@ -34,7 +34,7 @@ pub fn headers(tally: Tally) -> Tally {
     t = refuses_byte(t, names, 0, 0x4d, 2);
     t = refuses_byte(t, names, 2, 0x55, 2);
     t = refuses_byte(t, names, 4, 0, 3);
-    t = refuses_byte(t, names, 4, 2, 3);
+    t = refuses_byte(t, names, 4, 3, 3);
     t = refuses_byte(t, names, 3, 1, 3);
     t = many_keys(t, names);
     t = refuses_byte(t, names, 5, 1, 5);

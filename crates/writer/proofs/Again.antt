@@ -1,6 +1,7 @@
 -- The list packed, its keys woven and planned, and packed again where the plan used it up: the keys are whole for the second pass.
 -- Assumes nothing.
 use mathlib.Core.Path.{_≡_, refl, sym, ap, ap₂, _∙_}
+use mathlib.Core.Bool.{true}
 use mathlib.Core.List.{List, [], _∷_, _++_, map}
 use Prim.Native.Nat.{ℕ, zero, suc, _+_, _-_, _≤_}
 use native.Mathlib.Omega.{arith}
@@ -8,12 +9,14 @@ use borrow.Author.Tests.{le-ltb}
 use lib.ListN.{length, take, drop, replicate, length-append, length-map, take-append-drop}
 use lib.Seq.{take-all, take-at, take-append-add, length-take-le}
 use Rattle.zorder.specs.Packed.{keyOfPacked}
+use Rattle.format.specs.Question.{isLift}
+use Rattle.format.specs.Writer.{liftQuestion}
 use Rattle.format.specs.declared.Admission.{Admission}
 use Rattle.image_writer.specs.declared.Plan.{Plan}
 use Rattle.writer.specs.declared.Written.{Written}
-use Rattle.writer.specs.Writer.{WrittenKeys}
+use Rattle.writer.specs.Writer.{WrittenKeys, answered}
 use Rattle.image_writer.specs.Planning.{usedUp, FirstPass, KeysPlanned, unordered, passed}
-use Rattle.writer.specs.List.{keysIn, pairsPacked, fitting, over, packedOver, wovenAgain, PackedPlanned, PackedAgain, PackedRoom, PackedWritten, WrittenList, too-many, at-most, not-written, written}
+use Rattle.writer.specs.List.{keysIn, pairsPacked, fitting, over, packedOver, wovenAgain, PackedPlanned, PackedAgain, PackedRoom, PackedWritten, WrittenList, no-lift, too-many, at-most, not-written, written}
 use Rattle.writer.proofs.Job as job
 use Rattle.writer.proofs.Weaving.{keys-length, pairs-length, over-take, over-length, over-rest, keys-woven, in-pairs}
 
@@ -50,19 +53,20 @@ module _ (n : ℕ) (ls : List Admission) (places : List ℕ) (few : n ≤ length
   others-kept = ap (drop n) packed-is ∙ ap (λ (k : ℕ). drop k (over (take n (pairsPacked ls)) places)) (sym count) ∙ over-rest (take n (pairsPacked ls)) places ∙ ap (λ (k : ℕ). drop k places) count
 
 -- no more is used up than was packed
-pub used-few : (pairs : List ℕ) (n : ℕ) (after : List ℕ) (plan : Plan) → length pairs ≡ 4096 → PackedPlanned pairs n after plan → usedUp plan ≤ n
-used-few pairs n after plan all (too-many h r) = omega (arith, r .none-used)
-used-few pairs n after plan all (at-most h (unordered e r)) = omega (arith, r .none-used)
-used-few pairs n after plan all (at-most h (passed e p)) = omega (arith, p .used-few, length-map (take n pairs) keyOfPacked, length-take-le n pairs (omega arith))
+pub used-few : (lift : ℕ) (pairs : List ℕ) (n : ℕ) (after : List ℕ) (plan : Plan) → length pairs ≡ 4096 → PackedPlanned lift pairs n after plan → usedUp plan ≤ n
+used-few lift pairs n after plan all (no-lift t r) = omega (arith, r .none-used)
+used-few lift pairs n after plan all (too-many t h r) = omega (arith, r .none-used)
+used-few lift pairs n after plan all (at-most t h (unordered e r)) = omega (arith, r .none-used)
+used-few lift pairs n after plan all (at-most t h (passed e p)) = omega (arith, p .used-few, length-map (take n pairs) keyOfPacked, length-take-le n pairs (omega arith))
 
 -- the list packed, the places after the plan, and packed again
-module _ (ls : List Admission) (pairs after again : List ℕ) (plan : Plan) (used : ℕ)
-    (e : pairs ≡ packedOver (length ls) ls (replicate 4096 0)) (p : PackedPlanned pairs (length ls) after plan) (same : length after ≡ length pairs) (u : used ≡ usedUp plan) (e′ : again ≡ packedOver used ls after) where
+module _ (lift : ℕ) (ls : List Admission) (pairs after again : List ℕ) (plan : Plan) (used : ℕ)
+    (e : pairs ≡ packedOver (length ls) ls (replicate 4096 0)) (p : PackedPlanned lift pairs (length ls) after plan) (same : length after ≡ length pairs) (u : used ≡ usedUp plan) (e′ : again ≡ packedOver used ls after) where
   all : length pairs ≡ 4096
   all = ap length e ∙ over-length (take (fitting (length ls) 4096) (pairsPacked ls)) (replicate 4096 0)
 
   few : used ≤ length ls
-  few = rw u (used-few pairs (length ls) after plan all p)
+  few = rw u (used-few lift pairs (length ls) after plan all p)
 
   module _ (h : length ls ≤ 4096) where
     keys-planned : map keyOfPacked (take (length ls) pairs) ≡ keysIn ls
@@ -79,17 +83,18 @@ module _ (ls : List Admission) (pairs after again : List ℕ) (plan : Plan) (use
         (drop-take used (length ls) again few ∙ ap (take (length ls - used)) (ap (drop used) e′ ∙ others-kept used ls after few (omega (arith, few, all, same))) ∙ sym (drop-take used (length ls) after few) ∙ kept)
         ∙ take-append-drop used (keysIn ls)
 
-    passed-again : FirstPass (map keyOfPacked (take (length ls) pairs)) (take (length ls) after) plan → wovenAgain (usedUp plan) (length ls) again ≡ keysIn ls
+    passed-again : FirstPass lift (map keyOfPacked (take (length ls) pairs)) (take (length ls) after) plan → wovenAgain (usedUp plan) (length ls) again ≡ keysIn ls
     passed-again f = rw (← u) (whole-again (rw u (f .kept ∙ ap (drop (usedUp plan)) keys-planned)))
 
   -- the plan is for the keys, and what is written by it is what is written of the list
   pub list-room : PackedRoom again (length ls) plan
   list-room = record { again = go p }
     where
-      go : PackedPlanned pairs (length ls) after plan → plan .refusal ≡ 0 → PackedAgain again (length ls) plan
-      go (too-many h r) z = absurd (omega (arith, r .refusal-is))
-      go (at-most h (unordered o r)) z = absurd (omega (arith, r .refusal-is))
-      go (at-most h (passed o f)) z =
+      go : PackedPlanned lift pairs (length ls) after plan → plan .refusal ≡ 0 → PackedAgain again (length ls) plan
+      go (no-lift t r) z = absurd (omega (arith, r .refusal-is))
+      go (too-many t h r) z = absurd (omega (arith, r .refusal-is))
+      go (at-most t h (unordered o r)) z = absurd (omega (arith, r .refusal-is))
+      go (at-most t h (passed o f)) z =
           let k = passed-again h f in
           record {
             within = omega (arith, ap length e′, over-length (take (fitting used (length after)) (pairsPacked ls)) after, same, all);
@@ -98,15 +103,18 @@ module _ (ls : List Admission) (pairs after again : List ℕ) (plan : Plan) (use
             planned = rw (k, ← keys-planned h) (f .planned);
           }
 
-  pub list-written : (buffer : List ℕ) (answer : Written) (buffer′ : List ℕ) → PackedWritten again (length ls) plan buffer answer buffer′ → WrittenList ls buffer answer buffer′
-  list-written buffer answer buffer′ w = in-pairs ls buffer answer buffer′ (go p w)
+  pub list-written : (buffer : List ℕ) (answer : Written) (buffer′ : List ℕ) → PackedWritten again (length ls) plan buffer answer buffer′ → WrittenList lift ls buffer answer buffer′
+  list-written buffer answer buffer′ w = in-pairs lift ls buffer answer buffer′ (go p w)
     where
-      go : PackedPlanned pairs (length ls) after plan → PackedWritten again (length ls) plan buffer answer buffer′ → WrittenKeys (keysIn ls) buffer answer buffer′
-      go (too-many h r) (not-written n is kept) = rw (is, kept, r .refusal-is) (job.too-many (keysIn ls) buffer (omega (arith, keys-length ls)))
-      go (too-many h r) (written z w) = absurd (omega (arith, r .refusal-is))
-      go (at-most h k) (not-written n is kept) = rw (is, kept) (job.plan-refused (keysIn ls) (take (length ls) after) buffer plan (omega (arith, keys-length ls)) (rw (keys-planned h) at k) n)
-      go (at-most h (unordered o r)) (written z w) = absurd (omega (arith, r .refusal-is))
-      go (at-most h (passed o f)) (written z w) = rw (passed-again h f) at w
+      go : PackedPlanned lift pairs (length ls) after plan → PackedWritten again (length ls) plan buffer answer buffer′ → WrittenKeys (liftQuestion lift) lift (keysIn ls) buffer answer buffer′
+      go (no-lift t r) (not-written n is kept) = rw (is, kept, r .refusal-is) (unfold liftQuestion in job.no-35 (liftQuestion lift) lift (keysIn ls) buffer t)
+      go (no-lift t r) (written z w) = absurd (omega (arith, r .refusal-is))
+      go (too-many t h r) (not-written n is kept) = job.asked-35 answered (liftQuestion lift) lift (keysIn ls) buffer answer buffer′ refl (unfold liftQuestion in t) (rw (is, kept, r .refusal-is) (job.too-many lift (keysIn ls) buffer (omega (arith, keys-length ls))))
+      go (too-many t h r) (written z w) = absurd (omega (arith, r .refusal-is))
+      go (at-most t h k) (not-written n is kept) =
+          job.asked-35 answered (liftQuestion lift) lift (keysIn ls) buffer answer buffer′ refl (unfold liftQuestion in t) (rw (is, kept) (job.plan-refused lift (keysIn ls) (take (length ls) after) buffer plan (omega (arith, keys-length ls)) (rw (keys-planned h) at k) n))
+      go (at-most t h (unordered o r)) (written z w) = absurd (omega (arith, r .refusal-is))
+      go (at-most t h (passed o f)) (written z w) = job.asked-35 answered (liftQuestion lift) lift (keysIn ls) buffer answer buffer′ refl (unfold liftQuestion in t) (rw (passed-again h f, f .lift-is) at w)
 
 -- ---- the parts of an array that are woven and planned
 
@@ -115,14 +123,14 @@ pub back-count : (ys xs : List ℕ) (n : ℕ) → length ys ≡ length (take n x
 back-count ys xs n e = omega (arith, length-append ys (drop n xs), length-append (take n xs) (drop n xs), ap length (take-append-drop n xs))
 
 -- the first n are woven, and planned
-pub first-planned : (pairs woven after : List ℕ) (n : ℕ) (plan : Plan) → n ≤ length pairs → n ≤ 4096 → woven ≡ map keyOfPacked (take (n - 0) pairs) → length after ≡ length (take (n - 0) (woven ++ drop (n - 0) pairs))
-    → KeysPlanned (take (n - 0) (woven ++ drop (n - 0) pairs)) after plan → PackedPlanned pairs n (after ++ drop (n - 0) (woven ++ drop (n - 0) pairs)) plan
-first-planned pairs woven after n plan within few e same k =
+pub first-planned : (lift : ℕ) (pairs woven after : List ℕ) (n : ℕ) (plan : Plan) → isLift lift ≡ true → n ≤ length pairs → n ≤ 4096 → woven ≡ map keyOfPacked (take (n - 0) pairs) → length after ≡ length (take (n - 0) (woven ++ drop (n - 0) pairs))
+    → KeysPlanned lift (take (n - 0) (woven ++ drop (n - 0) pairs)) after plan → PackedPlanned lift pairs n (after ++ drop (n - 0) (woven ++ drop (n - 0) pairs)) plan
+first-planned lift pairs woven after n plan t within few e same k =
     let z : n - 0 ≡ n = omega arith in
     let l : length woven ≡ n - 0 = ap length e ∙ length-map (take (n - 0) pairs) keyOfPacked ∙ length-take-le (n - 0) pairs (omega arith) in
     let part : take (n - 0) (woven ++ drop (n - 0) pairs) ≡ woven = take-at woven (drop (n - 0) pairs) (n - 0) l in
     let back : take n (after ++ drop (n - 0) (woven ++ drop (n - 0) pairs)) ≡ after = take-at after (drop (n - 0) (woven ++ drop (n - 0) pairs)) n (same ∙ ap length part ∙ l ∙ z) in
-    at-most few (rw back (rw (part ∙ e ∙ ap (λ (m : ℕ). map keyOfPacked (take m pairs)) z) at k))
+    at-most t few (rw back (rw (part ∙ e ∙ ap (λ (m : ℕ). map keyOfPacked (take m pairs)) z) at k))
 
 -- those that were packed again are woven, and the keys are whole
 pub again-woven : (pairs woven : List ℕ) (used n : ℕ) (plan : Plan) → PackedAgain pairs n plan → used ≡ usedUp plan → woven ≡ map keyOfPacked (take (used - 0) pairs) → take (n - 0) (woven ++ drop (used - 0) pairs) ≡ wovenAgain (usedUp plan) n pairs

@@ -11,7 +11,7 @@ use lib.ListN.{length, getD, take, drop, set}
 use Rattle.format.specs.Key.{keyOf, spread, woven}
 use Rattle.format.proofs.Keys.{spread-join}
 use Rattle.zorder.specs.Packed.{keyOfPacked}
-use Rattle.format.specs.Writer.{write, bufferAfterWrite, writeKeys, bufferAfterWriteKeys}
+use Rattle.format.specs.Writer.{bufferAfterWrite, bufferAfterWriteKeys, liftQuestion, write, writeKeys}
 use Rattle.format.specs.declared.Admission.{Admission}
 use Rattle.writer.specs.declared.Written.{Written}
 use Rattle.writer.specs.Writer.{WrittenKeys}
@@ -117,10 +117,10 @@ keys-woven [] = refl
 keys-woven (a ∷ ls) = λ i. key-is a i ∷ keys-woven ls i
 
 -- what is written of the keys is what is written of the list
-pub in-pairs : (ls : List Admission) (buffer : List ℕ) (answer : Written) (buffer′ : List ℕ) → WrittenKeys (keysIn ls) buffer answer buffer′ → WrittenList ls buffer answer buffer′
+pub in-pairs : (lift : ℕ) (ls : List Admission) (buffer : List ℕ) (answer : Written) (buffer′ : List ℕ) → WrittenKeys (liftQuestion lift) lift (keysIn ls) buffer answer buffer′ → WrittenList lift ls buffer answer buffer′
 unfolding write bufferAfterWrite
-in-pairs ls buffer answer buffer′ w =
+in-pairs lift ls buffer answer buffer′ w =
     record {
-      returned = w .returned ∙ ap (λ (k : List ℕ). writeKeys k buffer) (sym (keys-are ls));
-      bytes = w .bytes ∙ ap (λ (k : List ℕ). bufferAfterWriteKeys k buffer) (sym (keys-are ls));
+      returned = w .returned ∙ ap (λ (k : List ℕ). writeKeys (liftQuestion lift) lift k buffer) (sym (keys-are ls));
+      bytes = w .bytes ∙ ap (λ (k : List ℕ). bufferAfterWriteKeys (liftQuestion lift) lift k buffer) (sym (keys-are ls));
     }

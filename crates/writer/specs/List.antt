@@ -8,10 +8,11 @@ use lib.Dec.{ltb}
 use lib.ListN.{length, take, drop}
 use Rattle.format.specs.Key.{keyOf}
 use Rattle.zorder.specs.Packed.{keyOfPacked}
+use Rattle.format.specs.Question.{isLift}
 use Rattle.format.specs.Writer.{write, bufferAfterWrite}
 use Rattle.format.specs.declared.Admission.{Admission}
 use Rattle.writer.specs.declared.Written.{Written}
-use Rattle.writer.specs.Writer.{outcomeOf, WrittenKeys}
+use Rattle.writer.specs.Writer.{outcomeOf, WrittenKeys, answered}
 use Rattle.packing.specs.Run.{Prefixes}
 use Rattle.image_writer.specs.Image.{Planned}
 use Rattle.image_writer.specs.Planning.{usedUp, IsRefusal, KeysPlanned}
@@ -53,15 +54,16 @@ over (k ∷ keys) (x ∷ places) = k ∷ over keys places
 abbrev pub packedOver : ℕ → List Admission → List ℕ → List ℕ
 packedOver n list places = over (take (fitting n (length places)) (pairsPacked list)) places
 
--- the writer's answer and the buffer at exit, for the lent list and the buffer as it was lent
-pub record WrittenList (list : List Admission) (buffer : List ℕ) (answer : Written) (buffer′ : List ℕ) : Type 0 where
-  pub returned : outcomeOf answer ≡ write (pairsIn list) buffer
-  pub bytes : buffer′ ≡ bufferAfterWrite (pairsIn list) buffer
+-- the writer's answer and the buffer at exit, for a lift, the lent list and the buffer as it was lent
+pub record WrittenList (lift : ℕ) (list : List Admission) (buffer : List ℕ) (answer : Written) (buffer′ : List ℕ) : Type 0 where
+  pub returned : outcomeOf answer ≡ write lift (pairsIn list) buffer
+  pub bytes : buffer′ ≡ bufferAfterWrite lift (pairsIn list) buffer
 
--- the plan of the keys of the first n packed admissions: where there are more than 4,096 question 14 gets a no
-pub data PackedPlanned (pairs : List ℕ) (n : ℕ) (after : List ℕ) (plan : Plan) : Type 0 where
-  too-many : 4096 < n → IsRefusal 14 plan → PackedPlanned pairs n after plan
-  at-most : n ≤ 4096 → KeysPlanned (map keyOfPacked (take n pairs)) (take n after) plan → PackedPlanned pairs n after plan
+-- the plan of the keys of the first n packed admissions: 35 gets a no, or 14 where there are more than 4,096
+pub data PackedPlanned (lift : ℕ) (pairs : List ℕ) (n : ℕ) (after : List ℕ) (plan : Plan) : Type 0 where
+  no-lift : isLift lift ≡ false → IsRefusal 35 plan → PackedPlanned lift pairs n after plan
+  too-many : isLift lift ≡ true → 4096 < n → IsRefusal 14 plan → PackedPlanned lift pairs n after plan
+  at-most : isLift lift ≡ true → n ≤ 4096 → KeysPlanned lift (map keyOfPacked (take n pairs)) (take n after) plan → PackedPlanned lift pairs n after plan
 
 -- n keys, of which the first `used` are packed admissions
 unfoldable pub wovenAgain : ℕ → ℕ → List ℕ → List ℕ
@@ -81,4 +83,4 @@ pub record PackedRoom (pairs : List ℕ) (n : ℕ) (plan : Plan) : Type 0 where
 -- the answer and the buffer at exit by a plan
 pub data PackedWritten (pairs : List ℕ) (n : ℕ) (plan : Plan) (buffer : List ℕ) (answer : Written) (buffer′ : List ℕ) : Type 0 where
   not-written : 0 < plan .refusal → answer ≡ Refused (plan .refusal) → buffer′ ≡ buffer → PackedWritten pairs n plan buffer answer buffer′
-  written : plan .refusal ≡ 0 → WrittenKeys (wovenAgain (usedUp plan) n pairs) buffer answer buffer′ → PackedWritten pairs n plan buffer answer buffer′
+  written : plan .refusal ≡ 0 → WrittenKeys answered (plan .lift) (wovenAgain (usedUp plan) n pairs) buffer answer buffer′ → PackedWritten pairs n plan buffer answer buffer′

@@ -9,7 +9,9 @@ ghost use mathlib.Core.Path.{_≡_};
 ghost use mathlib.Core.List.{_++_};
 ghost use Prim.Native.Nat.{_≤_};
 ghost use lib.ListN.{length, take, drop};
-ghost use Rattle.writer.specs.Writer.{WrittenKeys};
+ghost use Rattle.format.specs.Question.{isLift};
+ghost use Rattle.format.specs.Writer.{liftQuestion, eitherQuestion};
+ghost use Rattle.writer.specs.Writer.{WrittenKeys, answered};
 ghost use Rattle.packing.specs.Run.{Prefixes};
 ghost use Rattle.writer.specs.List.{WrittenList};
 ghost use Rattle.image_writer.specs.Image.{Planned};
@@ -32,28 +34,38 @@ fn load(places: &mut [u32], keys: &[u32])
     }
 }
 
+// Question 35: whether it is a lift number, 1 to 999.
+fn is_lift(lift: u32) -> bool
+    ensures { λ r. ⌜ r ≡ isLift lift ⌝ }
+{
+    if lift < 1 {
+        return false;
+    }
+    lift <= 999
+}
+
 // Question 17, and the image of the keys that a plan is for.
 fn fill_image(keys: &mut [u32], out: &mut [u8], plan: Plan) -> Written
     requires { ⌜ Prefixes (now keys) × Planned (now keys) plan ⌝ }
-    ensures { λ r. ⌜ WrittenKeys (now (keys .entry)) (now (out .entry)) r (now (out .exit)) ⌝ }
+    ensures { λ r. ⌜ WrittenKeys answered (plan .lift) (now (keys .entry)) (now (out .entry)) r (now (out .exit)) ⌝ }
 {
     let length = 64 + 64 * plan.pages;
     if out.len() < length {
         return Written::Refused(17);
     }
     let counts = plan.counts;
-    image_writer::fill_header(out, keys.len() as u16, counts);
+    image_writer::fill_header(out, plan.lift, keys.len() as u16, counts);
     image_writer::fill_bands(keys, out, plan);
     Written::Length(length)
 }
 
-// Writes the image of the keys, with as many places to work in.
-fn write_over(places: &mut [u32], keys: &[u32], out: &mut [u8]) -> Written
+// Writes the image of the keys for a lift, with as many places to work in.
+fn write_over(places: &mut [u32], keys: &[u32], lift: u16, out: &mut [u8]) -> Written
     requires { ⌜ (length (now places) ≡ length (now keys)) × (length (now keys) ≤ 4096) ⌝ }
-    ensures { λ r. ⌜ WrittenKeys (now (keys .entry)) (now (out .entry)) r (now (out .exit)) ⌝ }
+    ensures { λ r. ⌜ WrittenKeys answered lift (now (keys .entry)) (now (out .entry)) r (now (out .exit)) ⌝ }
 {
     load(places, keys);
-    let plan = image_writer::plan_keys(places);
+    let plan = image_writer::plan_keys(places, lift);
     if 0 < plan.refusal {
         return Written::Refused(plan.refusal);
     }
@@ -62,36 +74,49 @@ fn write_over(places: &mut [u32], keys: &[u32], out: &mut [u8]) -> Written
     fill_image(places, out, plan)
 }
 
-// Writes the image of a list of keys: questions 14, 15 and 17, then the image's length.
-pub fn write_keys(keys: &[u32], out: &mut [u8]) -> Written
-    ensures { λ r. ⌜ WrittenKeys (now (keys .entry)) (now (out .entry)) r (now (out .exit)) ⌝ }
+// Writes the image of a list of keys in either version, where lift 0 is version 1: questions 35, 14, 15 and 17, then the image's length.
+pub fn write_either(keys: &[u32], lift: u32, out: &mut [u8]) -> Written
+    ensures { λ r. ⌜ WrittenKeys (eitherQuestion lift) lift (now (keys .entry)) (now (out .entry)) r (now (out .exit)) ⌝ }
 {
+    if 999 < lift {
+        return Written::Refused(35);
+    }
     if 4096 < keys.len() {
         return Written::Refused(14);
     }
     let n = keys.len();
     let mut places = [0u32; 4096];
-    write_over(&mut places[0..n], keys, out)
+    write_over(&mut places[0..n], keys, lift as u16, out)
 }
 
-// The job: writes the image of the list into the first bytes of the buffer, and returns its length. It and `write_first` are proved by
-// hand, as list::pack_first is: the borrow checker covers no function over a lent slice of structs.
-pub fn write(list: &[Admission], out: &mut [u8]) -> Written
-    ensures { λ r. ⌜ WrittenList (now (list .entry)) (now (out .entry)) r (now (out .exit)) ⌝ }
+// Writes the image of a list of keys in version 2: questions 35, 14, 15 and 17, then the image's length.
+pub fn write_keys(keys: &[u32], lift: u32, out: &mut [u8]) -> Written
+    ensures { λ r. ⌜ WrittenKeys (liftQuestion lift) lift (now (keys .entry)) (now (out .entry)) r (now (out .exit)) ⌝ }
+{
+    if !is_lift(lift) {
+        return Written::Refused(35);
+    }
+    write_either(keys, lift, out)
+}
+
+// The job: writes the image of the list for a lift, in version 2, into the first bytes of the buffer, and returns its length. It and
+// `write_first` are proved by hand, as list::pack_first is: the borrow checker covers no function over a lent slice of structs.
+pub fn write(list: &[Admission], lift: u32, out: &mut [u8]) -> Written
+    ensures { λ r. ⌜ WrittenList lift (now (list .entry)) (now (out .entry)) r (now (out .exit)) ⌝ }
 {
     let n = list.len();
     let mut keys = [0; 4096];
     list::pack_first(list, &mut keys, n);
-    let plan = list::plan_packed(&mut keys, n);
+    let plan = list::plan_packed(&mut keys, n, lift);
     let used = image_writer::used_up(plan);
     list::pack_first(list, &mut keys, used);
     list::fill_packed(&mut keys, n, out, plan)
 }
 
 // The same for a caller that owns an array of admissions, of which the first `n` are the list. Such a caller needs no proof by hand.
-pub fn write_first(list: [Admission; 4096], n: usize, out: &mut [u8]) -> Written
+pub fn write_first(list: [Admission; 4096], n: usize, lift: u32, out: &mut [u8]) -> Written
     requires { ⌜ n ≤ 4096 ⌝ }
-    ensures { λ r. ⌜ WrittenList (take n list) (now (out .entry)) r (now (out .exit)) ⌝ }
+    ensures { λ r. ⌜ WrittenList lift (take n list) (now (out .entry)) r (now (out .exit)) ⌝ }
 {
-    write(&list[..n], out)
+    write(&list[..n], lift, out)
 }

@@ -35,16 +35,19 @@ pub fn pack_first(list: &[Admission], pairs: &mut [u32], n: usize)
     }
 }
 
-// Weaves the first `n` packed admissions into keys: question 14, then the plan of the keys.
-pub fn plan_packed(pairs: &mut [u32], n: usize) -> Plan
+// Weaves the first `n` packed admissions into keys: questions 35 and 14, then the plan of the keys.
+pub fn plan_packed(pairs: &mut [u32], n: usize, lift: u32) -> Plan
     requires { ⌜ length (now pairs) ≡ 4096 ⌝ }
-    ensures { λ r. ⌜ PackedPlanned (now (pairs .entry)) n (now (pairs .exit)) r ⌝ }
+    ensures { λ r. ⌜ PackedPlanned lift (now (pairs .entry)) n (now (pairs .exit)) r ⌝ }
 {
+    if !crate::is_lift(lift) {
+        return image_writer::refused(35);
+    }
     if 4096 < n {
         return image_writer::refused(14);
     }
     zorder::weave_all(&mut pairs[0..n]);
-    image_writer::plan_keys(&mut pairs[0..n])
+    image_writer::plan_keys(&mut pairs[0..n], lift as u16)
 }
 
 // Weaves the admissions that were packed again, and writes the image of the first `n` keys by their plan.

@@ -6,10 +6,10 @@ use Rattle.damage.proofs.survey_byte.Statement.{statement}
 use Rattle.damage.proofs.survey_byte.Tie as tie
 
 abbrev Inv-loop : tie.InvT-loop
-Inv-loop image₀ at s₀ bit₀ image s bit = (length image ≡ length image₀)
+Inv-loop image₀ text at s₀ bit₀ image s bit = (length image ≡ length image₀)
 
 abbrev μ-loop : tie.MeasureT-loop
-μ-loop image₀ at s₀ bit₀ image s bit = bit
+μ-loop image₀ text at s₀ bit₀ image s bit = bit
 
 pub survey-byte-spec : {M : Type 1} → statement M
 survey-byte-spec =

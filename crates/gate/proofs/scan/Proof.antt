@@ -14,7 +14,7 @@ unfolding lookupOutcome
 returns c =
     let l = c .before .before .before in
     let a = l .before .before .before .args in
-    image-refused (a .image .now) (a .records .now) (a .holder) (a .slot) (a .time) (a .lockout) _
+    image-refused (a .lift) (a .image .now) (a .records .now) (a .holder) (a .slot) (a .time) (a .lockout) _
     (sym (l .lookup .ensures .0) ∙ ap (λ q. lookupOutcome q (l .lookup .result .pages)) (c .before .answer .given .1))
 
 key-count-requires : tie.Need-key-count-requires
@@ -22,37 +22,51 @@ unfolding lookupOutcome
 key-count-requires c κs =
     let l = c .before .before .before in
     let a = l .before .before .before .args in
-    header-long (a .image .now) (a .records .now) (a .holder) (a .slot) (a .time) (a .lockout) _ (sym (l .lookup .ensures .0) ∙ ap (λ q. lookupOutcome q (l .lookup .result .pages)) (c .before .enum-told .given .1))
+    header-long (a .lift) (a .image .now) (a .records .now) (a .holder) (a .slot) (a .time) (a .lockout) _ (sym (l .lookup .ensures .0) ∙ ap (λ q. lookupOutcome q (l .lookup .result .pages)) (c .before .enum-told .given .1))
+
+lift-fits-requires : tie.Need-lift-fits-requires
+unfolding lookupOutcome
+lift-fits-requires c κs =
+    let l = c .before .before .before .before in
+    let a = l .before .before .before .args in
+    header-long (a .lift) (a .image .now) (a .records .now) (a .holder) (a .slot) (a .time) (a .lockout) _ (sym (l .lookup .ensures .0) ∙ ap (λ q. lookupOutcome q (l .lookup .result .pages)) (c .before .before .enum-told .given .1))
 
 admit-requires : tie.Need-admit-requires
-admit-requires c κs = (c .key-count .ensures .1, λ e. absurd (let z : _≡_ {A = ℕ} 0 1 = cc in omega arith))
+admit-requires c κs = (c .before .key-count .ensures .1, λ e. absurd (let z : _≡_ {A = ℕ} 0 1 = cc in omega arith))
 
 returns-2 : tie.Need-returns-2
 unfolding lookupOutcome
 returns-2 c =
-    let l = c .before .before .before .before .before .before .before in
+    let l = c .before .before .before .before .before .before .before .before in
     let a = l .before .before .before .args in
-    admitted-absent (a .image .now) (a .records .now) (a .holder) (a .slot) (a .time) (a .lockout) _ _ _ (sym (l .lookup .ensures .0) ∙ ap (λ q. lookupOutcome q (l .lookup .result .pages)) (c .before .before .before .before .before .enum-told .given .1))
-    (c .before .before .before .key-count .ensures .0) (c .before .before .admit .ensures)
+    admitted-absent (a .lift) (a .image .now) (a .records .now) (a .holder) (a .slot) (a .time) (a .lockout) _ _ _ _ (sym (l .lookup .ensures .0) ∙ ap (λ q. lookupOutcome q (l .lookup .result .pages)) (c .before .before .before .before .before .before .enum-told .given .1))
+    (c .before .before .before .before .key-count .ensures .0) (c .before .before .before .lift-fits .ensures) (c .before .before .admit .ensures)
 
 key-count-requires-2 : tie.Need-key-count-requires-2
 unfolding lookupOutcome
 key-count-requires-2 c κs =
     let l = c .before .before .before .before in
     let a = l .before .before .before .args in
-    header-long (a .image .now) (a .records .now) (a .holder) (a .slot) (a .time) (a .lockout) _ (sym (l .lookup .ensures .0) ∙ ap (λ q. lookupOutcome q (l .lookup .result .pages)) (c .before .before .answer2 .given .1))
+    header-long (a .lift) (a .image .now) (a .records .now) (a .holder) (a .slot) (a .time) (a .lockout) _ (sym (l .lookup .ensures .0) ∙ ap (λ q. lookupOutcome q (l .lookup .result .pages)) (c .before .before .answer2 .given .1))
+
+lift-fits-requires-2 : tie.Need-lift-fits-requires-2
+unfolding lookupOutcome
+lift-fits-requires-2 c κs =
+    let l = c .before .before .before .before .before in
+    let a = l .before .before .before .args in
+    header-long (a .lift) (a .image .now) (a .records .now) (a .holder) (a .slot) (a .time) (a .lockout) _ (sym (l .lookup .ensures .0) ∙ ap (λ q. lookupOutcome q (l .lookup .result .pages)) (c .before .before .before .answer2 .given .1))
 
 admit-requires-2 : tie.Need-admit-requires-2
 unfolding lookupOutcome
 admit-requires-2 c κs =
-    let l = c .before .before .before .before .before in
+    let l = c .before .before .before .before .before .before in
     let a = l .before .before .before .args in (
-      c .key-count2 .ensures .1,
+      c .before .key-count2 .ensures .1,
       λ e.
           omega (
             arith,
-            c .key-count2 .ensures .0,
-            rank-small (a .image .now) (a .records .now) (a .holder) (a .slot) (a .time) (a .lockout) _ _ (sym (l .lookup .ensures .0) ∙ ap (λ q. lookupOutcome q (l .lookup .result .pages)) (c .before .before .before .answer2 .given .1))
+            c .before .key-count2 .ensures .0,
+            rank-small (a .lift) (a .image .now) (a .records .now) (a .holder) (a .slot) (a .time) (a .lockout) _ _ (sym (l .lookup .ensures .0) ∙ ap (λ q. lookupOutcome q (l .lookup .result .pages)) (c .before .before .before .before .answer2 .given .1))
                 (bytes-of (a .image .now) (λ i. l .before .before .shared-slice-known .given i .fits)),
           ),
     )
@@ -60,13 +74,13 @@ admit-requires-2 c κs =
 returns-3 : tie.Need-returns-3
 unfolding lookupOutcome
 returns-3 c =
-    let l = c .before .before .before .before .before .before .before .before in
+    let l = c .before .before .before .before .before .before .before .before .before in
     let a = l .before .before .before .args in
-    admitted-listed (a .image .now) (a .records .now) (a .holder) (a .slot) (a .time) (a .lockout) _ _ (sym (l .lookup .ensures .0) ∙ ap (λ q. lookupOutcome q (l .lookup .result .pages)) (c .before .before .before .before .before .before .answer2 .given .1)) _ _ _
-    (c .before .before .before .key-count2 .ensures .0) (c .before .before .admit2 .ensures)
+    admitted-listed (a .lift) (a .image .now) (a .records .now) (a .holder) (a .slot) (a .time) (a .lockout) _ _ (sym (l .lookup .ensures .0) ∙ ap (λ q. lookupOutcome q (l .lookup .result .pages)) (c .before .before .before .before .before .before .before .answer2 .given .1)) _ _ _ _
+    (c .before .before .before .before .key-count2 .ensures .0) (c .before .before .before .lift-fits2 .ensures) (c .before .before .admit2 .ensures)
 
 pub scan-spec : {M : Type 1} → statement M
 scan-spec =
     tie.close
-    (tie.spec (λ c κs. search needs) (λ c. search needs) returns (λ c. search needs) key-count-requires admit-requires (λ c. search needs) returns-2 (λ c. search needs) key-count-requires-2 admit-requires-2
+    (tie.spec (λ c κs. search needs) (λ c. search needs) returns (λ c. search needs) key-count-requires lift-fits-requires admit-requires (λ c. search needs) returns-2 (λ c. search needs) key-count-requires-2 lift-fits-requires-2 admit-requires-2
     (λ c. search needs) returns-3)

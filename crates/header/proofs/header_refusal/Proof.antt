@@ -1,66 +1,80 @@
 -- `header::header_refusal` meets its contract: at each return the questions before got a yes. Assumes nothing.
-use mathlib.Core.Path.{sym}
-use borrow.Author.Tests.{not-true, not-false}
+use mathlib.Core.Path.{refl, sym, ap}
+use Prim.Native.Nat.{ℕ, _+_, _*_}
+use lib.Dec.{leb, eqb}
+use lib.ListN.{length}
+use borrow.Author.Tests.{eq-eqb, le-leb, lt-leb, ne-eqb, not-true, not-false}
 use denote.Ref.{now}
 use Rattle.format.specs.Question.{firstNo, headerQuestions}
 use Rattle.header.specs.Refusal.{refusalOf}
-use Rattle.header.proofs.Asked.{Past, past-1, past-2, past-3, past-4, past-5, past-6, past-7, no-1, no-2, no-3, no-4, no-5, no-5-later, no-6, no-7}
+use Rattle.header.proofs.Asked.{Past, no-to, yes-to}
 use borrow.Author.Needs.{needs}
 use Rattle.header.proofs.header_refusal.Statement.{statement}
 use Rattle.header.proofs.header_refusal.Tie as tie
 
 past1 : (c : tie.Else1) → Past 1 (now (c .before .before .args .image))
-past1 c = past-1 _ (c .if1 .left)
+unfolding headerQuestions
+past1 c = yes-to 1 _ _ _ _ refl refl (le-leb 64 _ (c .if1 .left))
 
 past2 : (c : tie.Else2) → Past 2 (now (c .before .before .before .before .args .image))
-past2 c = past-2 _ _ (c .before .mark-right .ensures) (past1 (c .before .before)) (not-false _ (c .if2 .left))
+unfolding headerQuestions
+past2 c = yes-to 2 _ _ _ _ (past1 (c .before .before)) (c .before .mark-right .ensures) (not-false _ (c .if2 .left))
 
 past3 : (c : tie.Else3) → Past 3 (now (c .before .before .before .before .before .before .args .image))
-past3 c = past-3 _ _ (c .before .number .ensures .0) (past2 (c .before .before)) (c .if3 .left)
+unfolding headerQuestions
+past3 c = yes-to 3 _ _ _ _ (past2 (c .before .before)) (c .before .version-known .ensures) (not-false _ (c .if3 .left))
 
 past4 : (c : tie.Else4) → Past 4 (now (c .before .before .before .before .before .before .before .before .args .image))
-past4 c = past-4 _ _ (c .before .key-count .ensures .0) (past3 (c .before .before)) (c .if4 .left)
+unfolding headerQuestions
+past4 c = yes-to 4 _ _ _ _ (past3 (c .before .before)) (ap (λ (n : ℕ). leb n 4096) (c .before .key-count .ensures .0)) (le-leb _ 4096 (c .if4 .left))
 
-past5 : (c : tie.Else6) → Past 5 (now (c .before .before .before .before .before .before .before .before .before .before .before .before .args .image))
-past5 c = past-5 _ (past4 (c .before .before .before .before)) (c .before .before .if5 .left) _ (c .before .all-zero .ensures) (not-false _ (c .if6 .left))
+past5 : (c : tie.Else5) → Past 5 (now (c .before .before .before .before .before .before .before .before .before .before .args .image))
+unfolding headerQuestions
+past5 c = yes-to 5 _ _ _ _ (past4 (c .before .before)) (c .before .zeros-right .ensures) (not-false _ (c .if5 .left))
 
-past6 : (c : tie.Else7) → Past 6 (now (c .before .before .before .before .before .before .before .before .before .before .before .before .before .before .args .image))
-past6 c = past-6 _ _ (c .before .total-pages .ensures .0) (past5 (c .before .before)) (c .if7 .left)
+past35 : (c : tie.Else6) → Past 6 (now (c .before .before .before .before .before .before .before .before .before .before .before .before .args .image))
+unfolding headerQuestions
+past35 c = yes-to 35 _ _ _ _ (past5 (c .before .before)) (c .before .lift-right .ensures) (not-false _ (c .if6 .left))
 
-past7 : (c : tie.Else8) → Past 7 (now (c .before .before .before .before .before .before .before .before .before .before .before .before .before .before .before .before .args .image))
-past7 c = past-7 _ _ (c .before .counts-fit .ensures) (past6 (c .before .before)) (not-false _ (c .if8 .left))
+past6 : (c : tie.Else7) → Past 7 (now (c .before .before .before .before .before .before .before .before .before .before .before .before .before .before .args .image))
+unfolding headerQuestions
+past6 c = yes-to 6 _ _ _ _ (past35 (c .before .before)) (ap (λ (n : ℕ). eqb (length (now (c .before .before .before .before .before .before .before .before .before .before .before .before .before .before .args .image))) (64 * (1 + n))) (c .before .total-pages .ensures .0)) (eq-eqb _ _ (c .if7 .left))
+
+past7 : (c : tie.Else8) → Past 8 (now (c .before .before .before .before .before .before .before .before .before .before .before .before .before .before .before .before .args .image))
+unfolding headerQuestions
+past7 c = yes-to 7 _ _ _ _ (past6 (c .before .before)) (c .before .counts-fit .ensures) (not-false _ (c .if8 .left))
 
 returns : tie.Need-returns
-unfolding refusalOf
-returns c = no-1 _ (c .if1 .taken)
+unfolding refusalOf headerQuestions
+returns c = no-to 1 _ _ _ _ refl refl (lt-leb 64 _ (c .if1 .taken))
 
 returns-2 : tie.Need-returns-2
-unfolding refusalOf
-returns-2 c = no-2 _ _ (c .before .mark-right .ensures) (past1 (c .before .before)) (not-true _ (c .if2 .taken))
+unfolding refusalOf headerQuestions
+returns-2 c = no-to 2 _ _ _ _ (past1 (c .before .before)) (c .before .mark-right .ensures) (not-true _ (c .if2 .taken))
 
 returns-3 : tie.Need-returns-3
-unfolding refusalOf
-returns-3 c = no-3 _ _ (c .before .number .ensures .0) (past2 (c .before .before)) (c .if3 .taken)
+unfolding refusalOf headerQuestions
+returns-3 c = no-to 3 _ _ _ _ (past2 (c .before .before)) (c .before .version-known .ensures) (not-true _ (c .if3 .taken))
 
 returns-4 : tie.Need-returns-4
-unfolding refusalOf
-returns-4 c = no-4 _ _ (c .before .key-count .ensures .0) (past3 (c .before .before)) (c .if4 .taken)
+unfolding refusalOf headerQuestions
+returns-4 c = no-to 4 _ _ _ _ (past3 (c .before .before)) (ap (λ (n : ℕ). leb n 4096) (c .before .key-count .ensures .0)) (lt-leb _ 4096 (c .if4 .taken))
 
 returns-5 : tie.Need-returns-5
-unfolding refusalOf
-returns-5 c = no-5 _ (past4 (c .before .before)) (c .if5 .taken)
+unfolding refusalOf headerQuestions
+returns-5 c = no-to 5 _ _ _ _ (past4 (c .before .before)) (c .before .zeros-right .ensures) (not-true _ (c .if5 .taken))
 
 returns-6 : tie.Need-returns-6
-unfolding refusalOf
-returns-6 c = no-5-later _ (past4 (c .before .before .before .before)) (c .before .before .if5 .left) _ (c .before .all-zero .ensures) (not-true _ (c .if6 .taken))
+unfolding refusalOf headerQuestions
+returns-6 c = no-to 35 _ _ _ _ (past5 (c .before .before)) (c .before .lift-right .ensures) (not-true _ (c .if6 .taken))
 
 returns-7 : tie.Need-returns-7
-unfolding refusalOf
-returns-7 c = no-6 _ _ (c .before .total-pages .ensures .0) (past5 (c .before .before)) (c .if7 .taken)
+unfolding refusalOf headerQuestions
+returns-7 c = no-to 6 _ _ _ _ (past35 (c .before .before)) (ap (λ (n : ℕ). eqb (length (now (c .before .before .before .before .before .before .before .before .before .before .before .before .before .before .args .image))) (64 * (1 + n))) (c .before .total-pages .ensures .0)) (ne-eqb _ _ (c .if7 .taken))
 
 returns-8 : tie.Need-returns-8
-unfolding refusalOf
-returns-8 c = no-7 _ _ (c .before .counts-fit .ensures) (past6 (c .before .before)) (not-true _ (c .if8 .taken))
+unfolding refusalOf headerQuestions
+returns-8 c = no-to 7 _ _ _ _ (past6 (c .before .before)) (c .before .counts-fit .ensures) (not-true _ (c .if8 .taken))
 
 returns-9 : tie.Need-returns-9
 unfolding refusalOf headerQuestions firstNo
@@ -77,7 +91,7 @@ header-refusal-spec =
     returns-3
     (λ c κs. search needs)
     returns-4
-    (λ c. search needs)
+    (λ c κs. search needs)
     returns-5
     (λ c κs. search needs)
     returns-6

@@ -11,6 +11,7 @@ pub fill-start-spec : {M : Type 1} → statement M
 fill-start-spec =
     tie.close
     (tie.spec
+    (λ c κs. search needs)
     (λ c. search needs)
     (λ c. simp length-set (omega arith))
     (λ c. simp length-set (omega arith))
@@ -18,4 +19,4 @@ fill-start-spec =
     (λ c. simp length-set (omega arith))
     (λ c. simp length-set (omega arith))
     (λ c. search needs)
-    (λ c. start-stored (now (c .args .out)) (c .pre)))
+    (λ c. start-stored _ _ (c .version-for .ensures) (now (c .before .before .args .out)) (c .before .before .pre)))

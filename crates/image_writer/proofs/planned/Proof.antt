@@ -9,10 +9,10 @@ use Rattle.image_writer.proofs.planned.Statement.{statement}
 use Rattle.image_writer.proofs.planned.Tie as tie
 
 abbrev Inv-loop : tie.InvT-loop
-Inv-loop keys₀ counts₀ pages₀ n₀ b₀ keys counts pages n b = Planning keys₀ keys counts pages n b
+Inv-loop keys₀ lift counts₀ pages₀ n₀ b₀ keys counts pages n b = Planning keys₀ keys counts pages n b
 
 abbrev μ-loop : tie.MeasureT-loop
-μ-loop keys₀ counts₀ pages₀ n₀ b₀ keys counts pages n b = b
+μ-loop keys₀ lift counts₀ pages₀ n₀ b₀ keys counts pages n b = b
 
 loop-holds : tie.Need-loop-holds Inv-loop μ-loop
 loop-holds c = planning-start _ (c .before .pre) (all-of (λ key. key < 2 ^ 32) (now (c .before .args .keys)) 0 (λ i. c .slice-known .given i .fits))
@@ -36,7 +36,7 @@ loop-again : tie.Need-loop-again Inv-loop μ-loop
 loop-again c = planning-next _ _ _ _ _ _ (c .before .before .before .before .before .before .before .before .loop .inv) _ _ (c .before .before .before .before .before .before .before .loop-test .taken) (c .before .before .before .before .before .count-band .ensures) (c .before .before .before .before .before .count-band .kept .0)
 
 returns : tie.Need-returns Inv-loop μ-loop
-returns c = planning-end _ _ _ _ _ _ (c .before .loop .inv) (c .loop-test .left)
+returns c = planning-end _ _ _ _ _ _ _ (c .before .loop .inv) (c .loop-test .left)
 
 pub planned-spec : {M : Type 1} → statement M
 planned-spec =

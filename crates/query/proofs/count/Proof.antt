@@ -2,10 +2,10 @@
 use mathlib.Core.Path.{sym, _∙_}
 use borrow.Author.Needs.{needs}
 use borrow.Author.Tests.{not-true, not-false}
-use Rattle.checker.proofs.After.{accepted-image}
+use Rattle.checker.proofs.After.{accepted-image, answer-accepted, answer-refused}
 use Rattle.nodes.proofs.Numbers.{bytes-of}
 use Rattle.query.specs.Outcomes.{membersOutcome}
-use Rattle.query.proofs.Jobs.{answer-refused, answer-accepted, count-refused, count-order, count-done}
+use Rattle.query.proofs.Jobs.{count-refused, count-order, count-done}
 use Rattle.query.proofs.count.Statement.{statement}
 use Rattle.query.proofs.count.Tie as tie
 

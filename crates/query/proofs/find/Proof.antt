@@ -1,10 +1,10 @@
 -- `query::find` meets its contract. Assumes nothing.
 use native.Mathlib.Omega.{arith}
 use borrow.Author.Needs.{needs}
-use Rattle.checker.proofs.After.{returned-count, accepted-image}
+use Rattle.checker.proofs.After.{accepted-image, answer-accepted, answer-refused, returned-count}
 use Rattle.nodes.proofs.Numbers.{bytes-of}
 use Rattle.query.specs.Outcomes.{findOutcome}
-use Rattle.query.proofs.Jobs.{answer-refused, answer-accepted, find-refused, find-past, find-done}
+use Rattle.query.proofs.Jobs.{find-refused, find-past, find-done}
 use Rattle.walk.proofs.Whole.{ready-of}
 use Rattle.query.proofs.find.Statement.{statement}
 use Rattle.query.proofs.find.Tie as tie

@@ -2,10 +2,10 @@
 use mathlib.Core.Path.{sym, _∙_}
 use borrow.Author.Needs.{needs}
 use borrow.Author.Tests.{not-true, not-false, ltb-true, ltb-false}
-use Rattle.checker.proofs.After.{returned-count, accepted-image}
+use Rattle.checker.proofs.After.{accepted-image, answer-accepted, answer-refused, returned-count}
 use Rattle.nodes.proofs.Numbers.{bytes-of}
 use Rattle.query.specs.Outcomes.{membersOutcome}
-use Rattle.query.proofs.Jobs.{answer-refused, answer-accepted, list-refused, list-order, list-short, list-done}
+use Rattle.query.proofs.Jobs.{list-refused, list-order, list-short, list-done}
 use Rattle.query.proofs.list.Statement.{statement}
 use Rattle.query.proofs.list.Tie as tie
 

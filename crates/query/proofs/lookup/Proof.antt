@@ -1,9 +1,9 @@
 -- `query::lookup` meets its contract. Assumes nothing.
 use mathlib.Core.Path.{_∙_}
 use borrow.Author.Needs.{needs}
-use Rattle.checker.proofs.After.{returned-count, accepted-image}
+use Rattle.checker.proofs.After.{accepted-image, answer-accepted, answer-refused, returned-count}
 use Rattle.nodes.proofs.Numbers.{bytes-of}
-use Rattle.query.proofs.Jobs.{answer-refused, answer-accepted, lookup-no, lookup-none, lookup-done}
+use Rattle.query.proofs.Jobs.{lookup-no, lookup-none, lookup-done}
 use Rattle.walk.proofs.Whole.{ready-of}
 use Rattle.query.proofs.lookup.Statement.{statement}
 use Rattle.query.proofs.lookup.Tie as tie

@@ -7,10 +7,10 @@ use Rattle.random_lists.proofs.scans.scan_row.Statement.{statement}
 use Rattle.random_lists.proofs.scans.scan_row.Tie as tie
 
 abbrev Inv-loop : tie.InvT-loop
-Inv-loop keys image records₀ expected₀ t₀ random₀ i₀ records expected t random i = (i ≤ 150) × (length records ≡ length records₀) × (length expected ≡ length expected₀)
+Inv-loop keys lift image records₀ expected₀ t₀ random₀ i₀ records expected t random i = (i ≤ 150) × (length records ≡ length records₀) × (length expected ≡ length expected₀)
 
 abbrev μ-loop : tie.MeasureT-loop
-μ-loop keys image records₀ expected₀ t₀ random₀ i₀ records expected t random i = 150 - i
+μ-loop keys lift image records₀ expected₀ t₀ random₀ i₀ records expected t random i = 150 - i
 
 pub scan-row-spec : {M : Type 1} → statement M
 scan-row-spec =

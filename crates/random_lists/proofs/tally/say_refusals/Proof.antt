@@ -5,10 +5,10 @@ use Rattle.random_lists.proofs.tally.say_refusals.Statement.{statement}
 use Rattle.random_lists.proofs.tally.say_refusals.Tie as tie
 
 abbrev Inv-loop : tie.InvT-loop
-Inv-loop counts n₀ n = (n ≤ 27)
+Inv-loop counts n₀ n = (n ≤ 41)
 
 abbrev μ-loop : tie.MeasureT-loop
-μ-loop counts n₀ n = 27 - n
+μ-loop counts n₀ n = 41 - n
 
 pub say-refusals-spec : {M : Type 1} → statement M
 say-refusals-spec =

@@ -1,0 +1,16 @@
+-- `damage::say_questions` meets its contract. Assumes nothing.
+use Prim.Native.Nat.{_-_, _≤_}
+use borrow.Author.Needs.{needs}
+use Rattle.damage.proofs.say_questions.Statement.{statement}
+use Rattle.damage.proofs.say_questions.Tie as tie
+
+abbrev Inv-loop : tie.InvT-loop
+Inv-loop counts n₀ n = (n ≤ 41)
+
+abbrev μ-loop : tie.MeasureT-loop
+μ-loop counts n₀ n = 41 - n
+
+pub say-questions-spec : {M : Type 1} → statement M
+say-questions-spec =
+    tie.close
+    (tie.spec Inv-loop μ-loop (λ c. search needs) (λ c. search needs) (λ c. search needs) (λ c κs. search needs) (λ c. search needs) (λ c. search needs) (λ c. search needs) (λ c. search needs))
