@@ -116,18 +116,21 @@ of-version v (suc n) l e d h =
     let is : l ≡ suc n = e ∙ cond-no (eqb v 1) 0 (suc n) (ne-eqb v 1 (λ f. omega arith)) in
     (or-second (eqb v 1) (eqb v 2) two, or-first (eqb v 2) (eqb (suc n) 0) two, or-second (eqb v 1) (leb 1 l && leb l 999) (and-both (le-leb 1 l (omega arith)) (le-leb l 999 (omega arith))))
 
--- version 1 counts as lift 0, and the lift is the number at byte 40 in either
+-- version 1 counts as lift 0, the lift of any other is the number at byte 40, and where 1 to 7 get a yes it is so in either
 pub no-lift : (img : List ℕ) → versionOf img ≡ 1 → liftOf img ≡ 0
 unfolding liftOf
 no-lift img e = cond-yes (eqb (versionOf img) 1) 0 (numberAt img 40) (eq-eqb (versionOf img) 1 e)
 
-pub lift-is : (img : List ℕ) → Header img → liftOf img ≡ numberAt img 40
+pub lift-number : (img : List ℕ) → (versionOf img ≡ 1 → ⊥) → liftOf img ≡ numberAt img 40
 unfolding liftOf
-lift-is img h = go (numberAt img 40) (h .version)
+lift-number img h = cond-no (eqb (versionOf img) 1) 0 (numberAt img 40) (ne-eqb (versionOf img) 1 h)
+
+pub lift-is : (img : List ℕ) → Header img → liftOf img ≡ numberAt img 40
+lift-is img h = go (numberAt img 40) refl (h .version)
   where
-    go : (n : ℕ) → versionOf img ≡ versionFor n → cond (eqb (versionOf img) 1) 0 n ≡ n
-    go zero e = cond-yes (eqb (versionOf img) 1) 0 0 (eq-eqb (versionOf img) 1 (e ∙ (unfold versionFor in refl)))
-    go (suc n) e = cond-no (eqb (versionOf img) 1) 0 (suc n) (ne-eqb (versionOf img) 1 (λ d. let two : versionOf img ≡ 2 = e ∙ (unfold versionFor in refl) in omega arith))
+    go : (n : ℕ) → numberAt img 40 ≡ n → versionOf img ≡ versionFor n → liftOf img ≡ numberAt img 40
+    go zero z e = no-lift img (e ∙ (unfold versionFor in refl)) ∙ sym z
+    go (suc n) z e = lift-number img (λ d. let two : versionOf img ≡ 2 = e ∙ (unfold versionFor in refl) in omega arith)
 
 -- 2
 abbrev markAt : List ℕ → ℕ → Bool

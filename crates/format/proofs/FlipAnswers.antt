@@ -28,7 +28,7 @@ use Rattle.format.proofs.Questions.{after-no, after-yes, asked-no, none
 use Rattle.format.proofs.Jobs.{lift-of}
 use Rattle.format.proofs.Bytes.{twoBytes-back, zero-all}
 use Rattle.format.proofs.HeaderBytes.{length-counts, length-start, length-two, version-some}
-use Rattle.format.proofs.Checked.{cond-no, lift-is, mark-right, no-lift}
+use Rattle.format.proofs.Checked.{lift-is, lift-number, mark-right, no-lift}
 use Rattle.format.proofs.Accepted.{facts, returned-of-yes, returned-same}
 use Rattle.format.proofs.Forth.{bandsOf-row, imaged}
 use Rattle.format.proofs.Exact.{kind-of}
@@ -118,13 +118,12 @@ module _ (img : List ℕ) (i y : ℕ) (ia : Accepted img) (e : isLiftByte img i 
   version-b = number-other img i y 3 (λ f. omega (arith, place)) (λ f. omega (arith, place)) ∙ version-a
 
   lift-b : liftOf b ≡ numberAt b 40
-  unfolding liftOf
-  lift-b = cond-no (eqb (versionOf b) 1) 0 (numberAt b 40) (ne-eqb (versionOf b) 1 (λ f. omega (arith, version-b)))
+  lift-b = lift-number b (λ f. omega (arith, version-b))
 
   -- 1 to 5 get a yes as before, and 35 a no
-  no-lift-number : isLift (numberAt b 40) ≡ false → check b ≡ refused 35
+  number-refused : isLift (numberAt b 40) ≡ false → check b ≡ refused 35
   unfolding check settle imageQuestions
-  no-lift-number t = ap (λ (o : Option ℕ). outcome o (keyCount b)) (after-no (headerQuestions b) _ 35 asked) ∙ (unfold outcome in refl)
+  number-refused t = ap (λ (o : Option ℕ). outcome o (keyCount b)) (after-no (headerQuestions b) _ 35 asked) ∙ (unfold outcome in refl)
     where
       byte : (j : ℕ) → j < 40 → getD b j 0 ≡ getD img j 0
       byte j h = unfold b in getD-set-other img i j y 0 (λ f. omega (arith, place))
@@ -156,9 +155,9 @@ module _ (img : List ℕ) (i y : ℕ) (ia : Accepted img) (e : isLiftByte img i 
           ∙ asked-no 35 _ _ (ap₂ _||_ (ne-eqb (versionOf b) 1 (λ f. omega (arith, version-b))) (ap isLift lift-b ∙ t))
 
   -- or the image is the one of the same keys for the other lift
-  lift-number : isLift (numberAt b 40) ≡ true → IsImage (listOf img) b
+  number-accepted : isLift (numberAt b 40) ≡ true → IsImage (listOf img) b
   unfolding listOf b
-  lift-number t =
+  number-accepted t =
       let f = facts img ia in
       let n = numberAt (set img i y) 40 in
       let number : (1 ≤ n) × (n ≤ 999) = lift-of n (unfold liftQuestion in t) in
@@ -186,8 +185,8 @@ of-lift img i k small ia e = go (isLift (numberAt (set img i y) 40)) refl
     inner = omega (arith, place img i y ia e bytes, facts img ia .questions .header .long)
 
     go : (t : Bool) → isLift (numberAt (set img i y) 40) ≡ t → (check (set img i y) ≡ refused 35) ⊎ OtherLift img (set img i y)
-    go false t = inl (no-lift-number img i y ia e bytes t)
-    go true t = let is = lift-number img i y ia e bytes t in inr (record { image = is; other = single-flip img i k inner small ia (is .accepted) })
+    go false t = inl (number-refused img i y ia e bytes t)
+    go true t = let is = number-accepted img i y ia e bytes t in inr (record { image = is; other = single-flip img i k inner small ia (is .accepted) })
 
 pub flip-refused : FlipRefused
 flip-refused = record { elsewhere = elsewhere; of-lift = of-lift }

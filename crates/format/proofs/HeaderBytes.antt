@@ -1,4 +1,4 @@
--- The header's bytes: its parts, how many they are, and the counts of the bands in them.
+-- The header's bytes: its parts, how many they are, the counts of the bands and the version in them, and that all are bytes.
 -- Assumes nothing.
 use mathlib.Core.Path.{_≡_, refl, ap, _∙_}
 use mathlib.Core.List.{List, [], _∷_, _++_, flatMap, append-assoc}
@@ -33,6 +33,7 @@ unfolding flatMap bandCounts twoBytes
 count-bytes [] = refl
 count-bytes (band ∷ l) = ap (λ (t : List ℕ). countBytes band ++ t) (count-bytes l)
 
+-- bytes 0 to 5, and 40 to 63
 pub length-start : (lift : ℕ) → length (headerStart lift) ≡ 6
 unfolding headerStart mark twoBytes
 length-start lift = refl
@@ -55,6 +56,7 @@ header-parts lift n counts body = simp append-assoc
 
 -- ---- the version
 
+-- version 2 for a lift, and no version is above it
 pub version-some : (lift : ℕ) → 1 ≤ lift → versionFor lift ≡ 2
 unfolding versionFor
 version-some zero h = absurd (omega arith)

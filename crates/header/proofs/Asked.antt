@@ -57,11 +57,6 @@ module _ (img : List ℕ) (v : ℕ) (ev : v ≡ versionOf img) where
     unfolding versionKnown
     known-other = ap (_|| eqb (versionOf img) 2) (ne-eqb (versionOf img) 1 (λ f. h (ev ∙ f)))
 
-    -- the lift is then the number at byte 40
-    pub lift-number : numberAt img 40 ≡ liftOf img
-    unfolding liftOf
-    lift-number = sym (cond-no (eqb (versionOf img) 1) 0 (numberAt img 40) (ne-eqb (versionOf img) 1 (λ f. h (ev ∙ f))))
-
     lift-other : liftRight img ≡ (leb 1 (liftOf img) && leb (liftOf img) 999)
     unfolding liftRight isLift
     lift-other = ap (_|| (leb 1 (liftOf img) && leb (liftOf img) 999)) (ne-eqb (versionOf img) 1 (λ f. h (ev ∙ f)))
