@@ -5,7 +5,7 @@ use mathlib.Core.Path.{_≡_, refl, sym, ap, ap₂, _∙_}
 use mathlib.Core.Bool.{Bool, true, false, _||_}
 use mathlib.Core.Logic.{_⊎_, inl, inr, ⊎-elim}
 use mathlib.Core.Option.{Option, some}
-use mathlib.Core.List.{List, [], _∷_, _++_, append-assoc, flatMap}
+use mathlib.Core.List.{List, _++_, append-assoc, flatMap}
 use Prim.Native.Nat.{ℕ, _+_, _≤_, _<_}
 use native.Mathlib.Omega.{arith}
 use native.Mathlib.Decide.{ℕ-discrete}
@@ -18,7 +18,7 @@ use Rattle.format.specs.Key.{unwoven}
 use Rattle.format.specs.Page.{Byte, numberAt, twoBytes}
 use Rattle.format.specs.Image.{bands, keyCount, keysOf, liftOf, listOf, versionOf}
 use Rattle.format.specs.Question.{firstNo, headerQuestions, imageQuestions, isLift, isZero, liftRight, outcome, refused, returns, settle, versionKnown, zerosRight}
-use Rattle.format.specs.Header.{header, headerEnd, headerStart, mark, versionFor}
+use Rattle.format.specs.Header.{header, headerEnd, headerStart, versionFor}
 use Rattle.format.specs.Writer.{bandBytes, bandCounts, bandsOf, imageOf, liftQuestion, pagesOf}
 use Rattle.format.specs.Answer.{check}
 use Rattle.format.specs.Exact.{Accepted, IsImage, LiftNumber}
@@ -27,7 +27,7 @@ use Rattle.format.proofs.Lists.{and-left, and-right, and-both, and-no, 
 use Rattle.format.proofs.Questions.{after-no, after-yes, asked-no, none-of-yes}
 use Rattle.format.proofs.Jobs.{lift-of}
 use Rattle.format.proofs.Bytes.{twoBytes-back, zero-all}
-use Rattle.format.proofs.HeaderBytes.{length-counts, length-start, length-two, version-some}
+use Rattle.format.proofs.HeaderBytes.{length-counts, length-start, length-two, start-same, version-some}
 use Rattle.format.proofs.Checked.{lift-is, lift-number, mark-right, no-lift}
 use Rattle.format.proofs.Accepted.{facts, returned-of-yes, returned-same}
 use Rattle.format.proofs.Forth.{bandsOf-row, imaged}
@@ -84,18 +84,15 @@ length-before lift keys =
 
 -- with other bytes in place of the lift's two it is the image of the same keys for another lift
 module _ (lift n : ℕ) (keys l : List ℕ) (same : versionFor lift ≡ versionFor n) (first : take 40 l ≡ take 40 (imageOf lift keys)) (two : take 2 (drop 40 l) ≡ twoBytes n) (rest : drop 42 l ≡ drop 42 (imageOf lift keys)) where
-  same-start : before lift keys ≡ before n keys
-  unfolding headerStart
-  same-start = ap (λ (v : ℕ). (mark ++ twoBytes v ++ 0 ∷ []) ++ (twoBytes (length keys) ++ flatMap twoBytes (flatMap bandCounts (bandsOf keys)))) same
-
   other-lift : l ≡ imageOf n keys
   other-lift =
       let size = length-before lift keys in
       let e₄₀ : take 40 l ≡ before lift keys = first ∙ ap (take 40) (image-parts lift keys) ∙ take-at (before lift keys) (twoBytes lift ++ after keys) 40 size in
       let d₄₀ : drop 40 (imageOf lift keys) ≡ twoBytes lift ++ after keys = ap (drop 40) (image-parts lift keys) ∙ drop-at (before lift keys) (twoBytes lift ++ after keys) 40 size in
       let e₄₂ : drop 42 l ≡ after keys = rest ∙ sym (drop-drop 2 40 (imageOf lift keys)) ∙ ap (drop 2) d₄₀ ∙ (unfold twoBytes in refl) in
+      let same-first : before lift keys ≡ before n keys = ap (_++ (twoBytes (length keys) ++ flatMap twoBytes (flatMap bandCounts (bandsOf keys)))) (start-same lift n same) in
       let end : drop 40 l ≡ twoBytes n ++ after keys = sym (take-append-drop 2 (drop 40 l)) ∙ ap₂ _++_ two (drop-drop 2 40 l ∙ e₄₂) in
-      sym (take-append-drop 40 l) ∙ ap₂ _++_ (e₄₀ ∙ same-start) end ∙ sym (image-parts n keys)
+      sym (take-append-drop 40 l) ∙ ap₂ _++_ (e₄₀ ∙ same-first) end ∙ sym (image-parts n keys)
 
 module _ (img : List ℕ) (i y : ℕ) (ia : Accepted img) (e : isLiftByte img i ≡ true) (bytes : All Byte (set img i y)) where
   b : List ℕ

@@ -67,6 +67,11 @@ unfolding versionFor
 version-small zero = omega arith
 version-small (suc n) = omega arith
 
+-- the first bytes tell the version alone
+pub start-same : (lift n : ℕ) → versionFor lift ≡ versionFor n → headerStart lift ≡ headerStart n
+unfolding headerStart
+start-same lift n e = ap (λ (v : ℕ). mark ++ twoBytes v ++ 0 ∷ []) e
+
 -- ---- all are bytes
 
 pub start-bytes : (lift : ℕ) → All Byte (headerStart lift)
