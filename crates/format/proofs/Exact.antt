@@ -1,7 +1,7 @@
 -- Demand 3: there is one image per list, version and lift. The statement is specs/Exact.antt.
 -- Assumes nothing.
 use mathlib.Core.Path.{_≡_, refl, sym, ap, ap₂, _∙_, subst}
-use mathlib.Core.Logic.{_⊎_, inl, inr}
+use mathlib.Core.Logic.{inl, inr}
 use mathlib.Core.Bool.{true}
 use mathlib.Core.Option.{Option, none}
 use mathlib.Core.List.{List, [], _∷_, _++_, List·Memᴰ, Memᴰ·cast}
@@ -17,10 +17,10 @@ use Rattle.format.specs.Header.{versionFor}
 use Rattle.format.specs.Question.{Outcome, Question, Yes, filled, firstNo, imageQuestions, outcome, returns, settle}
 use Rattle.format.specs.Writer.{bufferAfterWrite, bufferAfterWriteKeys, imageOf, liftQuestion, listQuestions, roomQuestion, write, writeKeys}
 use Rattle.format.specs.Answer.{bufferAfterListing, contains, inside, listing, memberKeys, placesQuestion, rectangleQuestion}
-use Rattle.format.specs.Exact.{Accepted, AgreeOn, Exact, FilledIn, InOrder, IsImage, LiftNumber, ListedAlike, LongEnough, OneOfEach, WriterAccepts, wholeSquare}
+use Rattle.format.specs.Exact.{Accepted, AcceptedWith, AgreeOn, Exact, FilledIn, InOrder, KnownKind, LiftNumber, ListedAlike, LongEnough, OneOfEach, WriterAccepts, wholeSquare}
 use Rattle.format.proofs.Lists.{all-append, and-both}
 use Rattle.format.proofs.Questions.{yes-of-none, none-of-yes, after-yes}
-use Rattle.format.proofs.Jobs.{lift-of, of-lift, of-writable}
+use Rattle.format.proofs.Jobs.{lift-range, lift-yes, of-writable}
 use Rattle.format.proofs.Trie.{Fits}
 use Rattle.format.proofs.Keys.{holderOf-keyOf, slotOf-keyOf, keyOf-back, holderOf-small, slotOf-small}
 use Rattle.format.proofs.Members.{all-mem, Within, asc-same, of-ascending, fits-mem, select-asc, mem-select, select-mem, select-all, woven-back, unwoven-back, woven-fits, unwoven-small, mem-unwoven, unwoven-mem}
@@ -132,7 +132,7 @@ module _ (asked : Question) (lift : ℕ) (keys buffer : List ℕ) (first : Yes a
 
 -- the image of a list that the writer accepts, for each lift from 0 to 999
 record ImageFor (lift : ℕ) (list : List (ℕ × ℕ)) (img : List ℕ) : Type 0 where
-  image : IsImage list img
+  image : AcceptedWith list img
   version-is : versionOf img ≡ versionFor lift
   lift-is : liftOf img ≡ lift
 
@@ -150,7 +150,7 @@ image-for lift list small ad w =
 filled-in : (lift : ℕ) → LiftNumber lift → (list : List (ℕ × ℕ)) → All Admissible list → WriterAccepts list → (buffer : List ℕ) → Yes (roomQuestion lift (woven list) buffer) → FilledIn lift list buffer
 unfolding write bufferAfterWrite
 filled-in lift number list ad w buffer room =
-    let l = lift-of lift number in
+    let l = lift-range lift number in
     let i = image-for lift list (l .1) ad w in
     let e = written-bytes (liftQuestion lift) lift (woven list) buffer number w room in
     record {
@@ -167,14 +167,14 @@ unfolding listOf
 image-of img i = let f = facts img i in ap (imageOf (liftOf img)) (woven-back (keysOf img) (f .keys .fits)) ∙ f .back
 
 -- and so any two with the same list and lift
-only : (lift : ℕ) (list : List (ℕ × ℕ)) (img : List ℕ) → IsImage list img → liftOf img ≡ lift → img ≡ imageOf lift (woven list)
+only : (lift : ℕ) (list : List (ℕ × ℕ)) (img : List ℕ) → AcceptedWith list img → liftOf img ≡ lift → img ≡ imageOf lift (woven list)
 only lift list img i e = sym (image-of img (i .accepted)) ∙ ap₂ (λ (n : ℕ) (l : List (ℕ × ℕ)). imageOf n (woven l)) e (i .its-list)
 
 one-of-each : (list : List (ℕ × ℕ)) → All Admissible list → WriterAccepts list → OneOfEach list
 one-of-each list ad w =
     record {
       for-lift = λ lift number.
-          let i = image-for lift list (lift-of lift number .1) ad w in
+          let i = image-for lift list (lift-range lift number .1) ad w in
           record { the = imageOf lift (woven list); exists = (i .image, i .lift-is); unique = λ img k. only lift list img (k .0) (k .1) };
       in-version-1 =
           let i = image-for 0 list (omega arith) ad w in
@@ -182,12 +182,12 @@ one-of-each list ad w =
     }
 
 -- what an accepted image's version and lift can be
-pub kind-of : (img : List ℕ) → Facts img → ((versionOf img ≡ 1) × (liftOf img ≡ 0)) ⊎ ((versionOf img ≡ 2) × LiftNumber (liftOf img))
+pub kind-of : (img : List ℕ) → Facts img → KnownKind img
 kind-of img f = go (liftOf img) refl (f .version) (f .lift)
   where
-    go : (n : ℕ) → liftOf img ≡ n → versionOf img ≡ versionFor n → n ≤ 999 → ((versionOf img ≡ 1) × (liftOf img ≡ 0)) ⊎ ((versionOf img ≡ 2) × LiftNumber (liftOf img))
+    go : (n : ℕ) → liftOf img ≡ n → versionOf img ≡ versionFor n → n ≤ 999 → KnownKind img
     go zero e v h = inl (v ∙ (unfold versionFor in refl), e)
-    go (suc n) e v h = inr (v ∙ (unfold versionFor in refl), rw e (of-lift (suc n) (omega arith) h))
+    go (suc n) e v h = inr (v ∙ (unfold versionFor in refl), rw e (lift-yes (suc n) (omega arith) h))
 
 -- ---- demand 3
 

@@ -21,11 +21,11 @@ use Rattle.format.specs.Question.{firstNo, headerQuestions, imageQuestio
 use Rattle.format.specs.Header.{header, headerEnd, headerStart, versionFor}
 use Rattle.format.specs.Writer.{bandBytes, bandCounts, bandsOf, imageOf, liftQuestion, pagesOf}
 use Rattle.format.specs.Answer.{check}
-use Rattle.format.specs.Exact.{Accepted, IsImage, LiftNumber}
+use Rattle.format.specs.Exact.{Accepted, AcceptedWith, LiftNumber}
 use Rattle.format.specs.Flip.{FlipRefused, OtherLift, flipBit, flipped, isLiftByte}
 use Rattle.format.proofs.Lists.{and-left, and-right, and-both, and-no, or-first, or-second, or-rest}
 use Rattle.format.proofs.Questions.{after-no, after-yes, asked-no, none-of-yes}
-use Rattle.format.proofs.Jobs.{lift-of}
+use Rattle.format.proofs.Jobs.{lift-range}
 use Rattle.format.proofs.Bytes.{twoBytes-back, zero-all}
 use Rattle.format.proofs.HeaderBytes.{length-counts, length-start, length-two, start-same, version-some}
 use Rattle.format.proofs.Checked.{lift-is, lift-number, mark-right, no-lift}
@@ -152,12 +152,12 @@ module _ (img : List ℕ) (i y : ℕ) (ia : Accepted img) (e : isLiftByte img i 
           ∙ asked-no 35 _ _ (ap₂ _||_ (ne-eqb (versionOf b) 1 (λ f. omega (arith, version-b))) (ap isLift lift-b ∙ t))
 
   -- or the image is the one of the same keys for the other lift
-  number-accepted : isLift (numberAt b 40) ≡ true → IsImage (listOf img) b
+  number-accepted : isLift (numberAt b 40) ≡ true → AcceptedWith (listOf img) b
   unfolding listOf b
   number-accepted t =
       let f = facts img ia in
       let n = numberAt (set img i y) 40 in
-      let number : (1 ≤ n) × (n ≤ 999) = lift-of n (unfold liftQuestion in t) in
+      let number : (1 ≤ n) × (n ≤ 999) = lift-range n (unfold liftQuestion in t) in
       let m = imaged n (keysOf img) (number .1) (f .keys .asc) (f .keys .fits) (omega (arith, f .few, f .keys .count-is)) in
       let is : set img i y ≡ imageOf n (keysOf img) =
       other-lift (liftOf img) n (keysOf img) (set img i y) (sym (f .version) ∙ version-a ∙ sym (version-some n (number .0))) (take-set-le 40 img i y (place .0) ∙ ap (take 40) (sym (f .back)))

@@ -41,10 +41,10 @@ unfolding listQuestions
 of-writable keys e = let y = yes-of-none (listQuestions keys) e in (leb-true (length keys) 4096 (y .0), y .1 .0)
 
 -- 35: a lift number is 1 to 999
-pub lift-of : (lift : ℕ) → Yes (liftQuestion lift) → (1 ≤ lift) × (lift ≤ 999)
+pub lift-range : (lift : ℕ) → Yes (liftQuestion lift) → (1 ≤ lift) × (lift ≤ 999)
 unfolding liftQuestion isLift
-lift-of lift h = (leb-true 1 lift (and-left (leb 1 lift) (leb lift 999) h), leb-true lift 999 (and-right (leb 1 lift) (leb lift 999) h))
+lift-range lift h = (leb-true 1 lift (and-left (leb 1 lift) (leb lift 999) h), leb-true lift 999 (and-right (leb 1 lift) (leb lift 999) h))
 
-pub of-lift : (lift : ℕ) → 1 ≤ lift → lift ≤ 999 → Yes (liftQuestion lift)
+pub lift-yes : (lift : ℕ) → 1 ≤ lift → lift ≤ 999 → Yes (liftQuestion lift)
 unfolding liftQuestion isLift
-of-lift lift lo hi = and-both (le-leb 1 lift lo) (le-leb lift 999 hi)
+lift-yes lift lo hi = and-both (le-leb 1 lift lo) (le-leb lift 999 hi)

@@ -10,7 +10,7 @@ use lib.ListN.{length, getD, set}
 use Rattle.format.specs.Image.{liftOf, listOf, versionOf}
 use Rattle.format.specs.Question.{isZero, refused, returns}
 use Rattle.format.specs.Answer.{check}
-use Rattle.format.specs.Exact.{Accepted, IsImage}
+use Rattle.format.specs.Exact.{Accepted, AcceptedWith}
 
 -- a byte with its bit k, from 0, the lowest, turned over
 unfoldable pub flipBit : ℕ → ℕ → ℕ
@@ -26,7 +26,7 @@ isLiftByte img i = eqb (versionOf img) 2 && (eqb i 40 || eqb i 41)
 
 -- an accepted image of the same list and another lift
 pub record OtherLift (img img′ : List ℕ) : Type 0 where
-  pub image : IsImage (listOf img) img′
+  pub image : AcceptedWith (listOf img) img′
   pub other : liftOf img′ ≡ liftOf img → ⊥
 
 -- the statement

@@ -93,7 +93,8 @@ listQuestions keys =
 unfoldable pub roomQuestion : ℕ → List ℕ → List ℕ → Question
 roomQuestion lift keys buffer = (17, leb (length (imageOf lift keys)) (length buffer))
 
--- the writer on keys, where that is asked of the lift, first of all: returns the image's length and fills just that many first bytes of the buffer
+-- the writer on keys, whose first question is the one of the lift that it is given: returns the image's length and fills just that many first bytes of the
+-- buffer
 unfoldable pub writeKeys : Question → ℕ → List ℕ → List ℕ → Outcome ℕ
 writeKeys asked lift keys buffer = settle (asked ∷ listQuestions keys ++ roomQuestion lift keys buffer ∷ []) (length (imageOf lift keys))
 

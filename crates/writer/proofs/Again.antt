@@ -14,7 +14,7 @@ use Rattle.format.specs.Writer.{liftQuestion}
 use Rattle.format.specs.declared.Admission.{Admission}
 use Rattle.image_writer.specs.declared.Plan.{Plan}
 use Rattle.writer.specs.declared.Written.{Written}
-use Rattle.writer.specs.Writer.{WrittenKeys, answered}
+use Rattle.writer.specs.Writer.{WrittenKeys, yesTo35}
 use Rattle.image_writer.specs.Planning.{usedUp, FirstPass, KeysPlanned, unordered, passed}
 use Rattle.writer.specs.List.{keysIn, pairsPacked, fitting, over, packedOver, wovenAgain, PackedPlanned, PackedAgain, PackedRoom, PackedWritten, WrittenList, no-lift, too-many, at-most, not-written, written}
 use Rattle.writer.proofs.Job as job
@@ -109,12 +109,12 @@ module _ (lift : ℕ) (ls : List Admission) (pairs after again : List ℕ) (plan
       go : PackedPlanned lift pairs (length ls) after plan → PackedWritten again (length ls) plan buffer answer buffer′ → WrittenKeys (liftQuestion lift) lift (keysIn ls) buffer answer buffer′
       go (no-lift t r) (not-written n is kept) = rw (is, kept, r .refusal-is) (unfold liftQuestion in job.no-35 (liftQuestion lift) lift (keysIn ls) buffer t)
       go (no-lift t r) (written z w) = absurd (omega (arith, r .refusal-is))
-      go (too-many t h r) (not-written n is kept) = job.asked-35 answered (liftQuestion lift) lift (keysIn ls) buffer answer buffer′ refl (unfold liftQuestion in t) (rw (is, kept, r .refusal-is) (job.too-many lift (keysIn ls) buffer (omega (arith, keys-length ls))))
+      go (too-many t h r) (not-written n is kept) = job.asked-35 yesTo35 (liftQuestion lift) lift (keysIn ls) buffer answer buffer′ refl (unfold liftQuestion in t) (rw (is, kept, r .refusal-is) (job.too-many lift (keysIn ls) buffer (omega (arith, keys-length ls))))
       go (too-many t h r) (written z w) = absurd (omega (arith, r .refusal-is))
       go (at-most t h k) (not-written n is kept) =
-          job.asked-35 answered (liftQuestion lift) lift (keysIn ls) buffer answer buffer′ refl (unfold liftQuestion in t) (rw (is, kept) (job.plan-refused lift (keysIn ls) (take (length ls) after) buffer plan (omega (arith, keys-length ls)) (rw (keys-planned h) at k) n))
+          job.asked-35 yesTo35 (liftQuestion lift) lift (keysIn ls) buffer answer buffer′ refl (unfold liftQuestion in t) (rw (is, kept) (job.plan-refused lift (keysIn ls) (take (length ls) after) buffer plan (omega (arith, keys-length ls)) (rw (keys-planned h) at k) n))
       go (at-most t h (unordered o r)) (written z w) = absurd (omega (arith, r .refusal-is))
-      go (at-most t h (passed o f)) (written z w) = job.asked-35 answered (liftQuestion lift) lift (keysIn ls) buffer answer buffer′ refl (unfold liftQuestion in t) (rw (passed-again h f, f .lift-is) at w)
+      go (at-most t h (passed o f)) (written z w) = job.asked-35 yesTo35 (liftQuestion lift) lift (keysIn ls) buffer answer buffer′ refl (unfold liftQuestion in t) (rw (passed-again h f, f .lift-is) at w)
 
 -- ---- the parts of an array that are woven and planned
 

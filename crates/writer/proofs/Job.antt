@@ -20,7 +20,7 @@ use Rattle.format.proofs.Exact.{write-is}
 use Rattle.writer.specs.declared.Written.{Written}
 use Rattle.writer.specs.declared.Written.the-variants.{Length, Refused}
 use Rattle.image_writer.specs.declared.Plan.{Plan}
-use Rattle.writer.specs.Writer.{WrittenKeys, answered}
+use Rattle.writer.specs.Writer.{WrittenKeys, yesTo35}
 use Rattle.packing.specs.Run.{Prefixes}
 use Rattle.image_writer.specs.Image.{countsOf, pagesIn, pagesFrom, bytesOfBand, bytesOfBands, Planned, ImageRoom}
 use Rattle.image_writer.specs.Planning.{usedUp, FirstPass, KeysPlanned, unordered, passed}
@@ -89,16 +89,16 @@ asked-35 asked asked′ lift keys buffer answer buffer′ e e′ w = record { re
     o : writeKeys asked lift keys buffer ≡ writeKeys asked′ lift keys buffer
     o = unfold writeKeys settle in ap (λ (m : Option ℕ). outcome m (length (imageOf lift keys))) (asked-yes (asked .0) (asked .1) _ e ∙ sym (asked-yes (asked′ .0) (asked′ .1) _ e′))
 
-pub too-many : (lift : ℕ) (keys buffer : List ℕ) → 4096 < length keys → WrittenKeys answered lift keys buffer (Refused 14) buffer
-too-many lift keys buffer h = refused-by answered lift keys buffer 14 no
+pub too-many : (lift : ℕ) (keys buffer : List ℕ) → 4096 < length keys → WrittenKeys yesTo35 lift keys buffer (Refused 14) buffer
+too-many lift keys buffer h = refused-by yesTo35 lift keys buffer 14 no
   where
-    no : firstNo (answered ∷ listQuestions keys ++ roomQuestion lift keys buffer ∷ []) ≡ some 14
+    no : firstNo (yesTo35 ∷ listQuestions keys ++ roomQuestion lift keys buffer ∷ []) ≡ some 14
     no = unfold listQuestions firstNo in rw (lt-leb (length keys) 4096 h) refl
 
-pub not-ascending : (lift : ℕ) (keys buffer : List ℕ) → length keys ≤ 4096 → ascending keys ≡ false → WrittenKeys answered lift keys buffer (Refused 15) buffer
-not-ascending lift keys buffer few e = refused-by answered lift keys buffer 15 no
+pub not-ascending : (lift : ℕ) (keys buffer : List ℕ) → length keys ≤ 4096 → ascending keys ≡ false → WrittenKeys yesTo35 lift keys buffer (Refused 15) buffer
+not-ascending lift keys buffer few e = refused-by yesTo35 lift keys buffer 15 no
   where
-    no : firstNo (answered ∷ listQuestions keys ++ roomQuestion lift keys buffer ∷ []) ≡ some 15
+    no : firstNo (yesTo35 ∷ listQuestions keys ++ roomQuestion lift keys buffer ∷ []) ≡ some 15
     no = unfold listQuestions firstNo in rw (le-leb (length keys) 4096 few, e) refl
 
 -- 14 and 15 got a yes
@@ -106,18 +106,18 @@ module _ (lift : ℕ) (keys buffer : List ℕ) (listed : Prefixes keys) where
   yes-all : firstNo (listQuestions keys) ≡ none
   yes-all = list-writable keys (listed .few) (listed .ordered)
 
-  no-room : length buffer < 64 + 64 * pagesIn keys → WrittenKeys answered lift keys buffer (Refused 17) buffer
-  no-room h = refused-by answered lift keys buffer 17 (asked-yes 35 true _ refl ∙ after-yes (listQuestions keys) (roomQuestion lift keys buffer ∷ []) yes-all ∙ no)
+  no-room : length buffer < 64 + 64 * pagesIn keys → WrittenKeys yesTo35 lift keys buffer (Refused 17) buffer
+  no-room h = refused-by yesTo35 lift keys buffer 17 (asked-yes 35 true _ refl ∙ after-yes (listQuestions keys) (roomQuestion lift keys buffer ∷ []) yes-all ∙ no)
     where
       no : firstNo (roomQuestion lift keys buffer ∷ []) ≡ some 17
       no = unfold roomQuestion firstNo in rw (lt-leb (length (imageOf lift keys)) (length buffer) (omega (arith, image-length lift keys))) refl
 
   written : (out₁ out₂ : List ℕ) → 64 + 64 * pagesIn keys ≤ length buffer → out₁ ≡ header lift (length keys) (countsOf keys) ++ drop 64 buffer → out₂ ≡ pagesFrom out₁ 1 (bytesOfBands keys)
-      → WrittenKeys answered lift keys buffer (Length (64 + 64 * pagesIn keys)) out₂
+      → WrittenKeys yesTo35 lift keys buffer (Length (64 + 64 * pagesIn keys)) out₂
   unfolding bufferAfterWriteKeys
   written out₁ out₂ h e₁ e₂ =
-      let o : writeKeys answered lift keys buffer ≡ returns (length (imageOf lift keys)) =
-      write-is answered lift keys buffer refl yes-all (unfold roomQuestion in le-leb (length (imageOf lift keys)) (length buffer) (omega (arith, image-length lift keys))) in
+      let o : writeKeys yesTo35 lift keys buffer ≡ returns (length (imageOf lift keys)) =
+      write-is yesTo35 lift keys buffer refl yes-all (unfold roomQuestion in le-leb (length (imageOf lift keys)) (length buffer) (omega (arith, image-length lift keys))) in
       record {
         returned = sym (o ∙ ap returns (image-length lift keys));
         bytes = image-filled lift keys buffer out₁ out₂ e₁ e₂ ∙ sym (ap (λ (m : Outcome ℕ). filled m (imageOf lift keys) buffer) o ∙ (unfold filled in refl));
@@ -126,7 +126,7 @@ module _ (lift : ℕ) (keys buffer : List ℕ) (listed : Prefixes keys) where
 -- ---- by a plan
 
 module _ (keys buffer : List ℕ) (plan : Plan) (g : Prefixes keys × Planned keys plan) where
-  pub plan-no-room : length buffer < 64 + 64 * plan .pages → WrittenKeys answered (plan .lift) keys buffer (Refused 17) buffer
+  pub plan-no-room : length buffer < 64 + 64 * plan .pages → WrittenKeys yesTo35 (plan .lift) keys buffer (Refused 17) buffer
   plan-no-room h = no-room (plan .lift) keys buffer (g .0) (rw (← g .1 .pages-are) h)
 
   module _ (room : 64 + 64 * plan .pages ≤ length buffer) (out₁ : List ℕ) where
@@ -134,12 +134,12 @@ module _ (keys buffer : List ℕ) (plan : Plan) (g : Prefixes keys × Planned ke
     plan-room same = record { listed = g .0; planned = g .1; room = omega arith }
 
     pub plan-written : (out₂ : List ℕ) → out₁ ≡ header (plan .lift) (length keys) (plan .counts) ++ drop 64 buffer → out₂ ≡ pagesFrom out₁ 1 (bytesOfBands keys)
-        → WrittenKeys answered (plan .lift) keys buffer (Length (64 + 64 * plan .pages)) out₂
+        → WrittenKeys yesTo35 (plan .lift) keys buffer (Length (64 + 64 * plan .pages)) out₂
     plan-written out₂ e₁ e₂ =
         rw (g .1 .pages-are) (written (plan .lift) keys buffer (g .0) out₁ out₂ (rw (g .1 .pages-are) at room) (e₁ ∙ ap (λ (c : List ℕ). header (plan .lift) (length keys) c ++ drop 64 buffer) (g .1 .counts-are)) e₂)
 
 -- the question that got a no
-pub plan-refused : (lift : ℕ) (keys after buffer : List ℕ) (plan : Plan) → length keys ≤ 4096 → KeysPlanned lift keys after plan → 0 < plan .refusal → WrittenKeys answered lift keys buffer (Refused (plan .refusal)) buffer
+pub plan-refused : (lift : ℕ) (keys after buffer : List ℕ) (plan : Plan) → length keys ≤ 4096 → KeysPlanned lift keys after plan → 0 < plan .refusal → WrittenKeys yesTo35 lift keys buffer (Refused (plan .refusal)) buffer
 plan-refused lift keys after buffer plan few (unordered e r) h = rw (r .refusal-is) (not-ascending lift keys buffer few e)
 plan-refused lift keys after buffer plan few (passed e p) h = absurd (omega (arith, p .no-refusal))
 

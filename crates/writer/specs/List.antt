@@ -12,7 +12,7 @@ use Rattle.format.specs.Question.{isLift}
 use Rattle.format.specs.Writer.{write, bufferAfterWrite}
 use Rattle.format.specs.declared.Admission.{Admission}
 use Rattle.writer.specs.declared.Written.{Written}
-use Rattle.writer.specs.Writer.{outcomeOf, WrittenKeys, answered}
+use Rattle.writer.specs.Writer.{outcomeOf, WrittenKeys, yesTo35}
 use Rattle.packing.specs.Run.{Prefixes}
 use Rattle.image_writer.specs.Image.{Planned}
 use Rattle.image_writer.specs.Planning.{usedUp, IsRefusal, KeysPlanned}
@@ -83,4 +83,4 @@ pub record PackedRoom (pairs : List ℕ) (n : ℕ) (plan : Plan) : Type 0 where
 -- the answer and the buffer at exit by a plan
 pub data PackedWritten (pairs : List ℕ) (n : ℕ) (plan : Plan) (buffer : List ℕ) (answer : Written) (buffer′ : List ℕ) : Type 0 where
   not-written : 0 < plan .refusal → answer ≡ Refused (plan .refusal) → buffer′ ≡ buffer → PackedWritten pairs n plan buffer answer buffer′
-  written : plan .refusal ≡ 0 → WrittenKeys answered (plan .lift) (wovenAgain (usedUp plan) n pairs) buffer answer buffer′ → PackedWritten pairs n plan buffer answer buffer′
+  written : plan .refusal ≡ 0 → WrittenKeys yesTo35 (plan .lift) (wovenAgain (usedUp plan) n pairs) buffer answer buffer′ → PackedWritten pairs n plan buffer answer buffer′

@@ -14,11 +14,11 @@ abbrev pub outcomeOf : Written → Outcome ℕ
 outcomeOf (Length n) = returns n
 outcomeOf (Refused n) = refused n
 
--- the answer and the buffer at exit, where that is asked of the lift, for a list of keys and the buffer as it was lent
+-- the answer and the buffer at exit, for the first question, which is one of the lift, a list of keys and the buffer as it was lent
 pub record WrittenKeys (asked : Question) (lift : ℕ) (keys buffer : List ℕ) (answer : Written) (buffer′ : List ℕ) : Type 0 where
   pub returned : outcomeOf answer ≡ writeKeys asked lift keys buffer
   pub bytes : buffer′ ≡ bufferAfterWriteKeys asked lift keys buffer
 
 -- 35 has got a yes
-abbrev pub answered : Question
-answered = (35, true)
+abbrev pub yesTo35 : Question
+yesTo35 = (35, true)

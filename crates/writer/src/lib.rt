@@ -11,7 +11,7 @@ ghost use Prim.Native.Nat.{_≤_};
 ghost use lib.ListN.{length, take, drop};
 ghost use Rattle.format.specs.Question.{isLift};
 ghost use Rattle.format.specs.Writer.{liftQuestion, eitherQuestion};
-ghost use Rattle.writer.specs.Writer.{WrittenKeys, answered};
+ghost use Rattle.writer.specs.Writer.{WrittenKeys, yesTo35};
 ghost use Rattle.packing.specs.Run.{Prefixes};
 ghost use Rattle.writer.specs.List.{WrittenList};
 ghost use Rattle.image_writer.specs.Image.{Planned};
@@ -47,7 +47,7 @@ fn is_lift(lift: u32) -> bool
 // Question 17, and the image of the keys that a plan is for.
 fn fill_image(keys: &mut [u32], out: &mut [u8], plan: Plan) -> Written
     requires { ⌜ Prefixes (now keys) × Planned (now keys) plan ⌝ }
-    ensures { λ r. ⌜ WrittenKeys answered (plan .lift) (now (keys .entry)) (now (out .entry)) r (now (out .exit)) ⌝ }
+    ensures { λ r. ⌜ WrittenKeys yesTo35 (plan .lift) (now (keys .entry)) (now (out .entry)) r (now (out .exit)) ⌝ }
 {
     let length = 64 + 64 * plan.pages;
     if out.len() < length {
@@ -62,7 +62,7 @@ fn fill_image(keys: &mut [u32], out: &mut [u8], plan: Plan) -> Written
 // Writes the image of the keys for a lift, with as many places to work in.
 fn write_over(places: &mut [u32], keys: &[u32], lift: u16, out: &mut [u8]) -> Written
     requires { ⌜ (length (now places) ≡ length (now keys)) × (length (now keys) ≤ 4096) ⌝ }
-    ensures { λ r. ⌜ WrittenKeys answered lift (now (keys .entry)) (now (out .entry)) r (now (out .exit)) ⌝ }
+    ensures { λ r. ⌜ WrittenKeys yesTo35 lift (now (keys .entry)) (now (out .entry)) r (now (out .exit)) ⌝ }
 {
     load(places, keys);
     let plan = image_writer::plan_keys(places, lift);

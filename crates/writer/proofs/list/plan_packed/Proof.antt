@@ -4,7 +4,7 @@ use native.Mathlib.Omega.{arith}
 use borrow.Author.Tests.{not-true, not-false}
 use borrow.Author.Needs.{needs}
 use Rattle.format.specs.Writer.{liftQuestion}
-use Rattle.format.proofs.Jobs.{lift-of}
+use Rattle.format.proofs.Jobs.{lift-range}
 use Rattle.writer.specs.List.{no-lift, too-many}
 use Rattle.writer.proofs.Again.{first-planned}
 use Rattle.writer.proofs.list.plan_packed.Statement.{statement}
@@ -23,7 +23,7 @@ cast-plan-keys : tie.Need-cast-plan-keys
 unfolding liftQuestion
 cast-plan-keys c =
     let a = c .before .before .before .before .before .before in
-    omega (arith, lift-of _ (sym (a .before .is-lift .ensures) ∙ not-false _ (a .if1 .left)))
+    omega (arith, lift-range _ (sym (a .before .is-lift .ensures) ∙ not-false _ (a .if1 .left)))
 
 pub plan-packed-spec : {M : Type 1} → statement M
 plan-packed-spec =
