@@ -1,6 +1,7 @@
-// The types that the jobs share, and the most bytes of an image. The definitions of the format are in specs/, the laws about them in proofs/.
+// The types that the jobs share, the most bytes of an image, and which numbers are lift numbers. The definitions of the format are in specs/, the laws about them in proofs/.
 ghost use mathlib.Core.Path.{_≡_};
 ghost use Rattle.format.specs.Band.{crossed};
+ghost use Rattle.format.specs.Question.{isLift};
 
 // The most bytes that an image can have (specs/Bounds): a buffer of so many has room for any.
 pub const MOST_BYTES: usize = 24640;
@@ -35,4 +36,14 @@ pub fn cross(link: OutLink) -> Root
     ensures { λ r. ⌜ r ≡ crossed link ⌝ }
 {
     Root(link.0)
+}
+
+// Whether it is a lift number, 1 to 999: 35 asks it of an image, and of what the writer is to write.
+pub fn is_lift(n: usize) -> bool
+    ensures { λ r. ⌜ r ≡ isLift n ⌝ }
+{
+    if n < 1 {
+        return false;
+    }
+    n <= 999
 }

@@ -57,15 +57,9 @@ module _ (img : List ℕ) (v : ℕ) (ev : v ≡ versionOf img) where
     unfolding versionKnown
     known-other = ap (_|| eqb (versionOf img) 2) (ne-eqb (versionOf img) 1 (λ f. h (ev ∙ f)))
 
-    lift-other : liftRight img ≡ (leb 1 (liftOf img) && leb (liftOf img) 999)
-    unfolding liftRight isLift
-    lift-other = ap (_|| (leb 1 (liftOf img) && leb (liftOf img) 999)) (ne-eqb (versionOf img) 1 (λ f. h (ev ∙ f)))
-
-    pub lift-none : (n : ℕ) → n ≡ liftOf img → n < 1 → false ≡ liftRight img
-    lift-none n e l = sym (lift-other ∙ ap (_&& leb (liftOf img) 999) (lt-leb 1 (liftOf img) (omega arith)))
-
-    pub lift-some : (m n : ℕ) → m ≡ liftOf img → 1 ≤ m → n ≡ liftOf img → leb n 999 ≡ liftRight img
-    lift-some m n em l e = sym (lift-other ∙ ap₂ (λ (s : Bool) (k : ℕ). s && leb k 999) (le-leb 1 (liftOf img) (omega arith)) (sym e))
+    pub lift-other : (n : ℕ) → n ≡ liftOf img → isLift n ≡ liftRight img
+    unfolding liftRight
+    lift-other n e = ap isLift e ∙ sym (ap (_|| isLift (liftOf img)) (ne-eqb (versionOf img) 1 (λ f. h (ev ∙ f))))
 
 -- ---- 7
 

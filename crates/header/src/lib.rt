@@ -161,10 +161,7 @@ fn lift_right(image: &[u8]) -> bool
     if names_none {
         return true;
     }
-    if lift(image) < 1 {
-        return false;
-    }
-    lift(image) <= 999
+    format::is_lift(lift(image))
 }
 
 // Whether the counts of bands 2 to 8 are all at least 1.

@@ -9,7 +9,6 @@ ghost use mathlib.Core.Path.{_≡_};
 ghost use mathlib.Core.List.{_++_};
 ghost use Prim.Native.Nat.{_≤_};
 ghost use lib.ListN.{length, take, drop};
-ghost use Rattle.format.specs.Question.{isLift};
 ghost use Rattle.format.specs.Writer.{liftQuestion, eitherQuestion};
 ghost use Rattle.writer.specs.Writer.{WrittenKeys, yesTo35};
 ghost use Rattle.packing.specs.Run.{Prefixes};
@@ -32,16 +31,6 @@ fn load(places: &mut [u32], keys: &[u32])
         places[i] = keys[i];
         i += 1;
     }
-}
-
-// Question 35: whether it is a lift number, 1 to 999.
-fn is_lift(lift: u32) -> bool
-    ensures { λ r. ⌜ r ≡ isLift lift ⌝ }
-{
-    if lift < 1 {
-        return false;
-    }
-    lift <= 999
 }
 
 // Question 17, and the image of the keys that a plan is for.
@@ -93,7 +82,7 @@ pub fn write_either(keys: &[u32], lift: u32, out: &mut [u8]) -> Written
 pub fn write_keys(keys: &[u32], lift: u32, out: &mut [u8]) -> Written
     ensures { λ r. ⌜ WrittenKeys (liftQuestion lift) lift (now (keys .entry)) (now (out .entry)) r (now (out .exit)) ⌝ }
 {
-    if !is_lift(lift) {
+    if !format::is_lift(lift as usize) {
         return Written::Refused(35);
     }
     write_either(keys, lift, out)

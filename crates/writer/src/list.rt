@@ -40,7 +40,7 @@ pub fn plan_packed(pairs: &mut [u32], n: usize, lift: u32) -> Plan
     requires { ⌜ length (now pairs) ≡ 4096 ⌝ }
     ensures { λ r. ⌜ PackedPlanned lift (now (pairs .entry)) n (now (pairs .exit)) r ⌝ }
 {
-    if !crate::is_lift(lift) {
+    if !format::is_lift(lift as usize) {
         return image_writer::refused(35);
     }
     if 4096 < n {
