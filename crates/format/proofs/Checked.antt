@@ -17,6 +17,7 @@ use Rattle.format.specs.Image.{bands, keyCount, liftOf, outLinkCount, pa
 use Rattle.format.specs.Question.{Yes, bandQuestions, countsFit, firstNo, headRight, headerQuestions, imageQuestions, isLift, isPositive, isZero, liftRight, markRight, outLinksDue, pageNeeded, pageQuestions, versionKnown, zerosRight}
 use Rattle.format.proofs.Lists.{and-left, and-right, and-both, or-first, or-second, or-rest, all-append, all-left, all-right, all-flatMap, flatMap-all, all-upTo, upTo-all, all-numbers, numbers-all, every-all, all-every}
 use Rattle.format.proofs.Questions.{yes-of-none, none-of-yes}
+use Rattle.format.proofs.Jobs.{lift-range, lift-yes}
 use Rattle.format.proofs.Bytes.{all-zero, zero-all}
 use Rattle.format.proofs.HeaderBytes.{version-some}
 
@@ -96,25 +97,23 @@ abbrev VersionFits : ℕ → ℕ → ℕ → Type 0
 VersionFits v n l = (eqb v 1 || eqb v 2 ≡ true) × (eqb v 2 || eqb n 0 ≡ true) × (eqb v 1 || isLift l ≡ true)
 
 version-of : (v n l : ℕ) → l ≡ cond (eqb v 1) 0 n → VersionFits v n l → (v ≡ versionFor n) × (n ≤ 999)
-unfolding isLift versionFor
+unfolding versionFor
 version-of v n l e (three, five, asked) =
     elim (ℕ-discrete v 1) [
       | yes d ↦ let z : n ≡ 0 = eqb-true n 0 (or-rest (eqb v 2) (eqb n 0) five (ne-eqb v 2 (λ f. omega arith))) in (d ∙ sym (ap versionFor z), omega arith)
       | no d ↦ let is : l ≡ n = e ∙ cond-no (eqb v 1) 0 n (ne-eqb v 1 d) in
-          let k : leb 1 l && leb l 999 ≡ true = or-rest (eqb v 1) (leb 1 l && leb l 999) asked (ne-eqb v 1 d) in
-          let lo = leb-true 1 l (and-left (leb 1 l) (leb l 999) k) in
-          let hi = leb-true l 999 (and-right (leb 1 l) (leb l 999) k) in
+          let (lo, hi) = lift-range l (or-rest (eqb v 1) (isLift l) asked (ne-eqb v 1 d)) in
           (eqb-true v 2 (or-rest (eqb v 1) (eqb v 2) three (ne-eqb v 1 d)) ∙ sym (version-some n (omega arith)), omega arith)
     ]
 
 of-version : (v n l : ℕ) → l ≡ cond (eqb v 1) 0 n → v ≡ versionFor n → n ≤ 999 → VersionFits v n l
-unfolding isLift versionFor
+unfolding versionFor
 of-version v zero l e d h =
-    let one = eq-eqb v 1 d in (or-first (eqb v 1) (eqb v 2) one, or-second (eqb v 2) (eqb 0 0) refl, or-first (eqb v 1) (leb 1 l && leb l 999) one)
+    let one = eq-eqb v 1 d in (or-first (eqb v 1) (eqb v 2) one, or-second (eqb v 2) (eqb 0 0) refl, or-first (eqb v 1) (isLift l) one)
 of-version v (suc n) l e d h =
     let two = eq-eqb v 2 d in
     let is : l ≡ suc n = e ∙ cond-no (eqb v 1) 0 (suc n) (ne-eqb v 1 (λ f. omega arith)) in
-    (or-second (eqb v 1) (eqb v 2) two, or-first (eqb v 2) (eqb (suc n) 0) two, or-second (eqb v 1) (leb 1 l && leb l 999) (and-both (le-leb 1 l (omega arith)) (le-leb l 999 (omega arith))))
+    (or-second (eqb v 1) (eqb v 2) two, or-first (eqb v 2) (eqb (suc n) 0) two, or-second (eqb v 1) (isLift l) (lift-yes l (omega arith) (omega arith)))
 
 -- version 1 counts as lift 0, the lift of any other is the number at byte 40, and where 1 to 7 get a yes it is so in either
 pub no-lift : (img : List ℕ) → versionOf img ≡ 1 → liftOf img ≡ 0

@@ -150,7 +150,7 @@ image-for lift list small ad w =
 filled-in : (lift : ℕ) → LiftNumber lift → (list : List (ℕ × ℕ)) → All Admissible list → WriterAccepts list → (buffer : List ℕ) → Yes (roomQuestion lift (woven list) buffer) → FilledIn lift list buffer
 unfolding write bufferAfterWrite
 filled-in lift number list ad w buffer room =
-    let l = lift-range lift number in
+    let l = lift-range lift (unfold liftQuestion in number) in
     let i = image-for lift list (l .1) ad w in
     let e = written-bytes (liftQuestion lift) lift (woven list) buffer number w room in
     record {
@@ -174,7 +174,7 @@ one-of-each : (list : List (ℕ × ℕ)) → All Admissible list → WriterAccep
 one-of-each list ad w =
     record {
       for-lift = λ lift number.
-          let i = image-for lift list (lift-range lift number .1) ad w in
+          let i = image-for lift list (lift-range lift (unfold liftQuestion in number) .1) ad w in
           record { the = imageOf lift (woven list); exists = (i .image, i .lift-is); unique = λ img k. only lift list img (k .0) (k .1) };
       in-version-1 =
           let i = image-for 0 list (omega arith) ad w in
@@ -187,7 +187,7 @@ kind-of img f = go (liftOf img) refl (f .version) (f .lift)
   where
     go : (n : ℕ) → liftOf img ≡ n → versionOf img ≡ versionFor n → n ≤ 999 → KnownKind img
     go zero e v h = inl (v ∙ (unfold versionFor in refl), e)
-    go (suc n) e v h = inr (v ∙ (unfold versionFor in refl), rw e (lift-yes (suc n) (omega arith) h))
+    go (suc n) e v h = inr (v ∙ (unfold versionFor in refl), rw e (unfold liftQuestion in lift-yes (suc n) (omega arith) h))
 
 -- ---- demand 3
 

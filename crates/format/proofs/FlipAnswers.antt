@@ -19,7 +19,7 @@ use Rattle.format.specs.Page.{Byte, numberAt, twoBytes}
 use Rattle.format.specs.Image.{bands, keyCount, keysOf, liftOf, listOf, versionOf}
 use Rattle.format.specs.Question.{firstNo, headerQuestions, imageQuestions, isLift, isZero, liftRight, outcome, refused, returns, settle, versionKnown, zerosRight}
 use Rattle.format.specs.Header.{header, headerEnd, headerStart, versionFor}
-use Rattle.format.specs.Writer.{bandBytes, bandCounts, bandsOf, imageOf, liftQuestion, pagesOf}
+use Rattle.format.specs.Writer.{bandBytes, bandCounts, bandsOf, imageOf, pagesOf}
 use Rattle.format.specs.Answer.{check}
 use Rattle.format.specs.Exact.{Accepted, AcceptedWith, LiftNumber}
 use Rattle.format.specs.Flip.{FlipRefused, OtherLift, flipBit, flipped, isLiftByte}
@@ -157,7 +157,7 @@ module _ (img : List ℕ) (i y : ℕ) (ia : Accepted img) (e : isLiftByte img i 
   number-accepted t =
       let f = facts img ia in
       let n = numberAt (set img i y) 40 in
-      let number : (1 ≤ n) × (n ≤ 999) = lift-range n (unfold liftQuestion in t) in
+      let number : (1 ≤ n) × (n ≤ 999) = lift-range n t in
       let m = imaged n (keysOf img) (number .1) (f .keys .asc) (f .keys .fits) (omega (arith, f .few, f .keys .count-is)) in
       let is : set img i y ≡ imageOf n (keysOf img) =
       other-lift (liftOf img) n (keysOf img) (set img i y) (sym (f .version) ∙ version-a ∙ sym (version-some n (number .0))) (take-set-le 40 img i y (place .0) ∙ ap (take 40) (sym (f .back)))

@@ -9,8 +9,8 @@ use native.Mathlib.Omega.{arith}
 use borrow.Author.Tests.{le-leb, leb-true}
 use lib.Dec.{leb}
 use lib.ListN.{length}
-use Rattle.format.specs.Question.{Question, Yes, firstNo, isLift, outcome, refused, returns, settle}
-use Rattle.format.specs.Writer.{ascending, liftQuestion, listQuestions}
+use Rattle.format.specs.Question.{Question, firstNo, isLift, outcome, refused, returns, settle}
+use Rattle.format.specs.Writer.{ascending, listQuestions}
 use Rattle.format.proofs.Lists.{and-both, and-left, and-right}
 use Rattle.format.proofs.Questions.{none-of-yes, yes-of-none}
 
@@ -41,10 +41,10 @@ unfolding listQuestions
 of-writable keys e = let y = yes-of-none (listQuestions keys) e in (leb-true (length keys) 4096 (y .0), y .1 .0)
 
 -- 35: a lift number is 1 to 999
-pub lift-range : (lift : ℕ) → Yes (liftQuestion lift) → (1 ≤ lift) × (lift ≤ 999)
-unfolding liftQuestion isLift
-lift-range lift h = (leb-true 1 lift (and-left (leb 1 lift) (leb lift 999) h), leb-true lift 999 (and-right (leb 1 lift) (leb lift 999) h))
+pub lift-range : (n : ℕ) → isLift n ≡ true → (1 ≤ n) × (n ≤ 999)
+unfolding isLift
+lift-range n h = (leb-true 1 n (and-left (leb 1 n) (leb n 999) h), leb-true n 999 (and-right (leb 1 n) (leb n 999) h))
 
-pub lift-yes : (lift : ℕ) → 1 ≤ lift → lift ≤ 999 → Yes (liftQuestion lift)
-unfolding liftQuestion isLift
-lift-yes lift lo hi = and-both (le-leb 1 lift lo) (le-leb lift 999 hi)
+pub lift-yes : (n : ℕ) → 1 ≤ n → n ≤ 999 → isLift n ≡ true
+unfolding isLift
+lift-yes n lo hi = and-both (le-leb 1 n lo) (le-leb n 999 hi)

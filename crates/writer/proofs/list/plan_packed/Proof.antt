@@ -3,7 +3,6 @@ use mathlib.Core.Path.{sym, _∙_}
 use native.Mathlib.Omega.{arith}
 use borrow.Author.Tests.{not-true, not-false}
 use borrow.Author.Needs.{needs}
-use Rattle.format.specs.Writer.{liftQuestion}
 use Rattle.format.proofs.Jobs.{lift-range}
 use Rattle.writer.specs.List.{no-lift, too-many}
 use Rattle.writer.proofs.Again.{first-planned}
@@ -20,7 +19,6 @@ returns-3 : tie.Need-returns-3
 returns-3 c = first-planned _ _ _ _ _ _ (sym (c .before .before .before .before .before .before .before .before .before .before .is-lift .ensures) ∙ not-false _ (c .before .before .before .before .before .before .before .before .before .if1 .left)) (omega (arith, c .before .before .before .before .before .before .before .before .before .before .before .before .pre, c .before .before .before .before .before .before .before .before .if2 .left)) (c .before .before .before .before .before .before .before .before .if2 .left) (c .before .before .before .before .before .before .weave-all .ensures) (c .before .before .plan-keys .kept .0) (c .before .before .plan-keys .ensures)
 
 cast-plan-keys : tie.Need-cast-plan-keys
-unfolding liftQuestion
 cast-plan-keys c =
     let a = c .before .before .before .before .before .before in
     omega (arith, lift-range _ (sym (a .before .is-lift .ensures) ∙ not-false _ (a .if1 .left)))
