@@ -165,27 +165,20 @@ fn say_survey(survey: Survey, bytes: usize) {
     say_totals(counts[OTHER_LIFT], counts[0], bytes);
 }
 
-// The survey of an image, or the number that refuses it.
-fn say(image: &mut [u8]) {
-    let n = refusal(image);
-    let bytes = image.len();
-    if n != 0 {
-        io::write_all(1, b"refused ");
-        io::print_decimal(1, n as u64);
-        io::write_all(1, b"\n");
-        return;
-    }
-    let mut text = [0u8; 73745];
-    let size = report::report(image, &mut text);
-    say_survey(survey_bytes(image, &text[0..size], bytes), bytes);
+// Whether the listing program's text says that the image is refused.
+fn is_refusal(text: &[u8]) -> bool {
+    starts_with_bytes(text, b"refused ")
 }
 
 fn main() {
     let mut input = [0u8; 65537];
     let n = io::read_full(0, &mut input);
-    if 65536 < n {
-        io::write_all(1, b"refused 6\n");
+    let mut out = [0u8; 73745];
+    let size = report::report_input(&input, n, &mut out);
+    let text = &out[0..size];
+    if is_refusal(text) {
+        io::write_all(1, text);
         return;
     }
-    say(&mut input[0..n]);
+    say_survey(survey_bytes(&mut input[0..n], text, n), n);
 }

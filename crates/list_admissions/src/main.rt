@@ -3,6 +3,6 @@ fn main() {
     let mut input = [0u8; 65537];
     let n = io::read_full(0, &mut input);
     let mut out = [0u8; 73745];
-    let size = report::report(&input[..n], &mut out);
+    let size = report::report_input(&input, n, &mut out);
     io::write_all(1, &out[0..size]);
 }

@@ -24,6 +24,7 @@ use Rattle.format.proofs.Questions.{after-no}
 use Rattle.format.proofs.Accepted.{facts, returned-of-yes}
 use Rattle.format.proofs.Exact.{listing-is, listing-keys, whole-members}
 use Rattle.report.specs.Row.{fieldOf, Put}
+use Rattle.report.specs.Outcomes.{Reported}
 
 -- ---- parts at the start
 
@@ -31,12 +32,12 @@ pub put-word : (l m word : List ℕ) → m ≡ sets l 0 word → Put l 0 word (l
 put-word l m word e = record { stored = e; place = omega arith; few = omega arith }
 
 -- what was written at the start, and what the buffer held after it
-pub put-all : (l xs : List ℕ) (k : ℕ) (m : List ℕ) (r : ℕ) (ys : List ℕ) → xs ≡ ys → k ≤ length l → Put l 0 xs k m r → (r ≡ length ys) × (m ≡ ys ++ drop r l) × (r ≤ length m)
-put-all l xs k m r ys e room p =
+pub put-all : (image l xs : List ℕ) (k : ℕ) (m : List ℕ) (r : ℕ) → xs ≡ printed image → k ≤ length l → Put l 0 xs k m r → Reported image l m r
+put-all image l xs k m r e room p =
     let size : r ≡ length xs = omega (arith, p .place) in
-    let all : m ≡ ys ++ drop r l =
+    let all : m ≡ printed image ++ drop r l =
     p .stored ∙ sets-eq xs l 0 (omega (arith, p .few)) ∙ ap₂ (λ (zs : List ℕ) (i : ℕ). zs ++ drop i l) e (zero-add (length xs) ∙ sym size) in
-    (size ∙ ap length e, all, omega (arith, ap length all, length-append ys (drop r l), ap length e))
+    record { returned = size ∙ ap length e; bytes = all; within = omega (arith, ap length all, length-append (printed image) (drop r l), ap length e) }
 
 -- ---- format's text
 

@@ -1,1 +1,7 @@
+-- The listing program's output: what is returned and what the buffer holds, then the parts that it is written in.
+-- Assumes nothing.
+
+-- the answer in format's terms
+pub mod Outcomes
+-- a line's parts, and what it is to write one
 pub mod Row

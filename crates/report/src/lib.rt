@@ -5,11 +5,11 @@ use query::Members;
 ghost use mathlib.Core.Path.{_≡_};
 ghost use mathlib.Core.List.{_++_};
 ghost use Prim.Native.Nat.{_+_, _*_, _≤_, _<_, _^_};
-ghost use lib.ListN.{length, take, drop};
+ghost use lib.ListN.{length, take};
 ghost use lib.Seq.{sets};
 ghost use Rattle.format.specs.Text.{digits, rows, admissionsWord, refusedWord};
 ghost use Rattle.format.specs.Exact.{wholeSquare};
-ghost use Rattle.format.specs.Text.{printed};
+ghost use Rattle.report.specs.Outcomes.{Reported};
 ghost use Rattle.report.specs.Row.{fieldOf, rowOf, Put};
 
 // The character of a digit.
@@ -145,7 +145,7 @@ fn whole_square() -> Rectangle
 // Writes the listing program's output for an image into the first bytes of a buffer that has room for every output, and returns its length: 17 bytes at most for
 // the first line, 18 for each of 4,096 others.
 pub fn report(image: &[u8], out: &mut [u8; 73745]) -> usize
-    ensures { λ r. ⌜ (r ≡ length (printed (now (image .entry)))) × (now (out .exit) ≡ printed (now (image .entry)) ++ drop r (now (out .entry))) × (r ≤ length (now (out .exit))) ⌝ }
+    ensures { λ r. ⌜ Reported (now (image .entry)) (now (out .entry)) (now (out .exit)) r ⌝ }
 {
     if 65536 < image.len() {
         return put_refusal(out, 6);
@@ -159,4 +159,16 @@ pub fn report(image: &[u8], out: &mut [u8; 73745]) -> usize
             return put_listing(out, &keys, n);
         }
     }
+}
+
+// The output for input that was read into an array with one place more than an image can have bytes, so that longer input shows: the first `n` places are
+// the input, or all where `n` is larger.
+pub fn report_input(input: &[u8; 65537], n: usize, out: &mut [u8; 73745]) -> usize
+    ensures { λ r. ⌜ Reported (take n (now (input .entry))) (now (out .entry)) (now (out .exit)) r ⌝ }
+{
+    let all: &[u8] = input;
+    if all.len() <= n {
+        return report(all, out);
+    }
+    report(&all[0..n], out)
 }

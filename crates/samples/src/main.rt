@@ -17,6 +17,7 @@ fn main() {
     tally = plates::printed(tally);
     tally = refusals::headers(tally);
     tally = refusals::counts(tally);
+    tally = refusals::inputs(tally);
     tally = refusals::empties(tally);
     tally = refusals::heads(tally);
     tally = refusals::nodes(tally);

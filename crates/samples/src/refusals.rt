@@ -10,6 +10,7 @@ use crate::judge::refuses;
 use crate::judge::refuses_byte;
 use crate::judge::refuses_part;
 use crate::judge::refuses_two;
+use crate::judge::refuses_zeros;
 use crate::say::Tally;
 
 // 1 to 5.
@@ -95,6 +96,15 @@ pub fn counts(tally: Tally) -> Tally {
     t = refuses_byte(t, names, 7, 0, 7);
     t = refuses_byte(t, names, 11, 2, 7);
     refuses_byte(t, names, 19, 0, 7)
+}
+
+// The listing program's input: longer than 65,536 bytes is 6, whatever else is wrong.
+pub fn inputs(tally: Tally) -> Tally {
+    let names: &[u8] = b"\
+        2: 65,536 bytes of zeros, listed\n\
+        6: 65,537 bytes of zeros, listed\n";
+    let t = refuses_zeros(tally, names, 65536, 2);
+    refuses_zeros(t, names, 65537, 6)
 }
 
 // 8 and 9.

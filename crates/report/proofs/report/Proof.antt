@@ -16,7 +16,7 @@ use Rattle.report.proofs.report.Tie as tie
 returns : tie.Need-returns
 returns c =
     let s = c .before .before .before .before in
-    put-all (s .args .out .now) _ 14 _ _ _ (printed-long (s .args .image .now) (c .before .before .if1 .taken)) (search needs) (c .put-refusal .ensures)
+    put-all (s .args .image .now) (s .args .out .now) _ 14 _ _ (printed-long (s .args .image .now) (c .before .before .if1 .taken)) (search needs) (c .put-refusal .ensures)
 
 returns-2 : tie.Need-returns-2
 unfolding membersOutcome
@@ -25,7 +25,7 @@ returns-2 c =
     let s1 = l .before .before .before .before in
     let s = s1 .before in
     let d = told (s .args .image .now) _ _ _ _ _ (l .before .before .whole-square .ensures) (ap membersOutcome (c .before .before .before .n .given .1)) (l .list .ensures) in
-    put-all (s .args .out .now) _ 14 _ _ _
+    put-all (s .args .image .now) (s .args .out .now) _ 14 _ _
     (printed-refused (s .args .image .now) (bytes-of (s .args .image .now) (λ i. s1 .shared-slice-known .given i .fits)) (omega arith) _ (search needs) _ (d .0)) (search needs) (c .put-refusal2 .ensures)
 
 put-listing-requires : tie.Need-put-listing-requires
@@ -46,7 +46,7 @@ returns-3 c =
     let s = s1 .before in
     let d = told (s .args .image .now) _ _ _ _ _ (l .before .before .whole-square .ensures) (ap membersOutcome (c .before .before .before .before .n2 .given .1)) (l .list .ensures) in
     let p = printed-listed (s .args .image .now) (bytes-of (s .args .image .now) (λ i. s1 .shared-slice-known .given i .fits)) (omega arith) _ (search needs) _ (d .0) in
-    put-all (s .args .out .now) _ _ _ _ _ (ap (λ (b : List ℕ). admissionsWord ++ fieldOf (c .before .before .before .before .n2 .given .0 .0) 10 ++ rows 0 (take (c .before .before .before .before .n2 .given .0 .0) b)) (d .1) ∙ p .1) (omega (arith, p .0)) (c .put-listing .ensures)
+    put-all (s .args .image .now) (s .args .out .now) _ _ _ _ (ap (λ (b : List ℕ). admissionsWord ++ fieldOf (c .before .before .before .before .n2 .given .0 .0) 10 ++ rows 0 (take (c .before .before .before .before .n2 .given .0 .0) b)) (d .1) ∙ p .1) (omega (arith, p .0)) (c .put-listing .ensures)
 
 pub report-spec : {M : Type 1} → statement M
 report-spec =
