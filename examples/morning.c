@@ -13,19 +13,11 @@
 #define MORNING 8
 #define LIFT 7
 
-/* The key of an admission: holder and slot bit by bit, the holder's first. */
-static uint32_t key_of(lpt_admission a)
-{
-    uint32_t key = 0;
-    for (int bit = 15; bit >= 0; bit--)
-        key = key << 2 | (uint32_t)(a.holder >> bit & 1) << 1 | (uint32_t)(a.slot >> bit & 1);
-    return key;
-}
-
 static int by_key(const void *a, const void *b)
 {
-    uint32_t x = key_of(*(const lpt_admission *)a), y = key_of(*(const lpt_admission *)b);
-    return (x > y) - (x < y);
+    const lpt_admission *x = a, *y = b;
+    int64_t k = lpt_key(x->holder, x->slot), l = lpt_key(y->holder, y->slot);
+    return (k > l) - (k < l);
 }
 
 static void say(const char *what, int64_t answer)
@@ -64,8 +56,19 @@ int main(void)
     int64_t members = lpt_list(image, (size_t)size, 1000, 1028, MORNING, MORNING, keys, sizeof keys / sizeof keys[0]);
     say("members of the rectangle", members);
     say("counted", lpt_count(image, (size_t)size, 1000, 1028, MORNING, MORNING));
-    for (int64_t i = 0; i < members; i++)
-        printf("  key %lu\n", (unsigned long)keys[i]);
+    for (int64_t i = 0; i < members; i++) {
+        int64_t a = lpt_admission_of(keys[i]);
+        printf("  holder %lld, slot %lld, key %lu\n", (long long)(a / 65536), (long long)(a % 65536), (unsigned long)keys[i]);
+    }
+
+    /* The keys of a list write the same image as its admissions. */
+    static uint32_t all[3 * HOLDERS];
+    for (size_t i = 0; i < n; i++)
+        all[i] = (uint32_t)lpt_key(list[i].holder, list[i].slot);
+    static uint8_t again[LPT_MOST_BYTES];
+    int64_t length = lpt_write_keys(all, n, LIFT, again, sizeof again);
+    say("bytes written from keys", length);
+    printf("%s\n", length == size && memcmp(image, again, (size_t)size) == 0 ? "the same image" : "another image");
 
     /* Scans, with a lockout of ten minutes. */
     static uint32_t records[3 * HOLDERS + 1];

@@ -1,6 +1,11 @@
 /*
  * lpt.h: the verified admission image, for C.
  *
+ * The library is an archive for x86-64. Two lines build it and a program over it, from the project's root:
+ *
+ *     rt staticlib capi
+ *     cc -Iinclude program.c target/staticlib/libcapi.a -o program
+ *
  * Every function returns an answer of 0 or more, or -n where question n got a no (LPT_NO_* below).
  * On a refusal no lent buffer changes. On an answer only the places named here change.
  *
@@ -22,6 +27,9 @@
 #ifdef __cplusplus
 extern "C" {
 #endif
+
+/* The version of this interface: one more whenever a declaration here changes or one is added. */
+#define LPT_API_VERSION 3
 
 /* An admission: a holder and a half-day slot. */
 typedef struct {
@@ -46,7 +54,7 @@ typedef struct {
 #define LPT_NO_VERSION 3      /* the version is neither 1 nor 2 */
 #define LPT_NO_KEY_COUNT 4    /* more than 4,096 keys */
 #define LPT_NO_ZERO_BYTES 5   /* a byte that must be zero is not */
-#define LPT_NO_LIFT 35        /* version 2, or lpt_write: the lift is not 1 to 999 */
+#define LPT_NO_LIFT 35        /* version 2, or writing: the lift is not 1 to 999 */
 #define LPT_NO_LENGTH 6       /* the length is not 64 x (1 + all page counts) */
 #define LPT_NO_BAND_COUNTS 7  /* page and root counts do not fit the key count */
 #define LPT_NO_COUNTERS 8     /* a page's T or B is wrong */
@@ -56,7 +64,7 @@ typedef struct {
 #define LPT_NO_PACKING 12     /* a page was started before it had to be */
 #define LPT_NO_LINKS 13       /* a band's out-links do not fit the band below, or the key count */
 
-/* Refusals of a list, by lpt_write, after LPT_NO_LIFT. Number 16 is not used. */
+/* Refusals of a list, by lpt_write and lpt_write_keys, after LPT_NO_LIFT. Number 16 is not used. */
 #define LPT_NO_MORE 14        /* more than 4,096 admissions */
 #define LPT_NO_ORDER 15       /* the keys do not strictly ascend */
 #define LPT_NO_ROOM 17        /* the output buffer is too short for the image */
@@ -77,12 +85,21 @@ typedef struct {
 #define LPT_NO_EARLIER 25     /* the time is before the last opening */
 #define LPT_NO_LOCKOUT 26     /* the lockout is not over */
 
+/* Returns the key of a holder and a slot, below 2^32: their bits by turns, the holder's first. Refuses nothing. */
+int64_t lpt_key(uint16_t holder, uint16_t slot);
+
+/* Returns holder x 65,536 + slot of a key, as lpt_list fills them in. Refuses nothing. */
+int64_t lpt_admission_of(uint32_t key);
+
 /*
  * Writes the image of a list for a lift, in version 2. The admissions must be in strictly ascending order of
- * their keys (lpt.h has no sorting: docs/FORMAT.md says how a key is made). Returns the image's length and fills
- * just that many first bytes of out; LPT_MOST_BYTES are always enough. Refuses with 35, 14, 15 or 17.
+ * their keys (lpt_key; there is no sorting here). Returns the image's length and fills just that many first bytes
+ * of out; LPT_MOST_BYTES are always enough. Refuses with 35, 14, 15 or 17.
  */
 int64_t lpt_write(const lpt_admission *list, size_t n, uint32_t lift, uint8_t *out, size_t out_len);
+
+/* The same for a list of keys, strictly ascending. */
+int64_t lpt_write_keys(const uint32_t *keys, size_t n, uint32_t lift, uint8_t *out, size_t out_len);
 
 /* Checks an image. Returns its key count. Refuses with 1 to 13. */
 int64_t lpt_check(const uint8_t *img, size_t len);

@@ -2,39 +2,44 @@
 -- Assumes nothing.
 use mathlib.Core.Path.{_≡_, sym, ap, _∙_}
 use mathlib.Core.List.{List, [], _∷_, _++_}
-use Prim.Native.Nat.{ℕ, _≤_}
+use Prim.Native.Nat.{ℕ, _^_, _≤_, _<_}
 use native.Mathlib.Omega.{arith}
 use lib.IntN.{ℤ}
 use lib.ListN.{length}
 use Rattle.format.specs.declared.Admission.{Admission}
+use Rattle.format.specs.Seq.{All}
 use Rattle.format.specs.Key.{woven}
 use Rattle.format.specs.Question.{Yes, returns}
-use Rattle.format.specs.Writer.{imageOf, liftQuestion, listQuestions, roomQuestion, write, writeKeys}
+use Rattle.format.specs.Writer.{imageOf, liftQuestion, listQuestions, roomQuestion, write, bufferAfterWrite, writeKeys}
 use Rattle.format.proofs.Lists.{all-left}
 use Rattle.format.proofs.Questions.{none-of-yes, yes-of-none}
 use Rattle.format.proofs.Jobs.{of-writable, yes-of-returns}
 use Rattle.format.proofs.Members.{woven-fits}
 use Rattle.format.proofs.Bounds.{page-bound}
 use Rattle.writer.specs.List.{WrittenList, pairsIn}
-use Rattle.writer.specs.Writer.{outcomeOf}
+use Rattle.writer.specs.Writer.{WrittenKeys, outcomeOf}
 use Rattle.writer.specs.declared.Written.{Written}
 use Rattle.writer.specs.declared.Written.the-variants.{Length, Refused}
 use Rattle.capi.specs.Encoding.{WithinBound, WrittenToC, encoded}
 
 -- a length that the writer returns is within format's bound
-write-small : (lift : ℕ) (list : List (ℕ × ℕ)) (buffer : List ℕ) (n : ℕ) → write lift list buffer ≡ returns n → n ≤ 24640
-unfolding write writeKeys
-write-small lift list buffer n e =
-    let keys = woven list in
+keys-small : (lift : ℕ) (keys : List ℕ) → All (λ key. key < 2 ^ 32) keys → (buffer : List ℕ) (n : ℕ) → writeKeys (liftQuestion lift) lift keys buffer ≡ returns n → n ≤ 24640
+unfolding writeKeys
+keys-small lift keys fits buffer n e =
     let qs = liftQuestion lift ∷ listQuestions keys ++ roomQuestion lift keys buffer ∷ [] in
     let (asked, same) = yes-of-returns qs (length (imageOf lift keys)) n e in
     let q = of-writable keys (none-of-yes (listQuestions keys) (all-left Yes (listQuestions keys) (roomQuestion lift keys buffer ∷ []) (yes-of-none qs asked .1))) in
-    omega (arith, same, page-bound .of-list lift keys (woven-fits list) (q .0) (q .1) .size)
+    omega (arith, same, page-bound .of-list lift keys fits (q .0) (q .1) .size)
 
--- so is the one that its answer to the lent list holds
+-- so is the one that its answer holds
+pub keys-within : (lift : ℕ) (keys : List ℕ) → All (λ key. key < 2 ^ 32) keys → (buffer : List ℕ) (t : Written) (buffer′ : List ℕ) → WrittenKeys (liftQuestion lift) lift keys buffer t buffer′ → WithinBound t
+keys-within lift keys fits buffer (Length n) buffer′ w = keys-small lift keys fits buffer n (sym (w .returned))
+keys-within lift keys fits buffer (Refused n) buffer′ w = tt
+
+-- and to the lent list
 pub within : (lift : ℕ) (list : List Admission) (buffer : List ℕ) (t : Written) (buffer′ : List ℕ) → WrittenList lift list buffer t buffer′ → WithinBound t
-within lift list buffer (Length n) buffer′ w = write-small lift (pairsIn list) buffer n (sym (w .returned))
-within lift list buffer (Refused n) buffer′ w = tt
+unfolding write bufferAfterWrite
+within lift list buffer t buffer′ w = keys-within lift (woven (pairsIn list)) (woven-fits (pairsIn list)) buffer t buffer′ (record { returned = w .returned; bytes = w .bytes })
 
 -- what the writer answers and leaves in the buffer, as C gets it
 pub to-c : (lift : ℕ) (list : List Admission) (buffer : List ℕ) (t : Written) (r : ℤ) (buffer′ : List ℕ) → WrittenList lift list buffer t buffer′ → r ≡ encoded (outcomeOf t) → WrittenToC lift list buffer r buffer′

@@ -31,9 +31,13 @@ lookupBuffer (returns (listed rank pages)) buffer = rank ∷ pages
 lookupBuffer (returns absent) buffer = buffer
 lookupBuffer (refused n) buffer = buffer
 
--- finding by rank: holder and slot in one number
+-- a holder and a slot in one number
+abbrev pub encodedAdmission : ℕ × ℕ → ℤ
+encodedAdmission a = pos (a .0 * 65536 + a .1)
+
+-- finding by rank
 abbrev pub encodedFind : Outcome (ℕ × ℕ) → ℤ
-encodedFind (returns a) = pos (a .0 * 65536 + a .1)
+encodedFind (returns a) = encodedAdmission a
 encodedFind (refused n) = negℤ (pos n)
 
 -- the rectangle of holders h0 to h1 and slots s0 to s1

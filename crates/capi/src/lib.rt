@@ -3,12 +3,13 @@ ghost use mathlib.Core.Path.{_≡_};
 ghost use mathlib.Core.List.{_∷_};
 ghost use Prim.Native.Nat.{_<_};
 ghost use lib.IntN.{pos, negℤ};
+ghost use Rattle.format.specs.Key.{keyOf, holderOf, slotOf};
 ghost use Rattle.format.specs.Writer;
 ghost use Rattle.format.specs.Answer;
 ghost use Rattle.format.specs.Scan;
 ghost use Rattle.checker.specs.Outcomes;
 ghost use Rattle.writer.specs.Writer.{outcomeOf};
-ghost use Rattle.capi.specs.Encoding.{encoded, encodedLookup, lookupBuffer, encodedFind, rectangleOf, WithinBound, WithinCount, WrittenToC};
+ghost use Rattle.capi.specs.Encoding.{encoded, encodedAdmission, encodedLookup, lookupBuffer, encodedFind, rectangleOf, WithinBound, WithinCount, WrittenToC};
 use checker::Checked;
 use format::Admission;
 use format::Range;
@@ -32,6 +33,13 @@ fn answer(n: usize) -> i64
     ensures { λ r. ⌜ r ≡ pos n ⌝ }
 {
     n as i64
+}
+
+// An admission in one number.
+fn admission(a: Admission) -> i64
+    ensures { λ r. ⌜ r ≡ encodedAdmission (a .holder, a .slot) ⌝ }
+{
+    answer((a.holder as usize) * 65536 + a.slot as usize)
 }
 
 fn rectangle_of(h0: u16, h1: u16, s0: u16, s1: u16) -> Rectangle
@@ -65,12 +73,33 @@ fn checked(answered: Checked) -> i64
     }
 }
 
+#[no_mangle]
+pub extern "C" fn lpt_key(holder: u16, slot: u16) -> i64
+    ensures { λ r. ⌜ r ≡ pos (keyOf holder slot) ⌝ }
+{
+    answer(zorder::weave(holder, slot) as usize)
+}
+
+#[no_mangle]
+pub extern "C" fn lpt_admission_of(key: u32) -> i64
+    ensures { λ r. ⌜ r ≡ encodedAdmission (holderOf key, slotOf key) ⌝ }
+{
+    admission(zorder::unweave(key))
+}
+
 // Over a lent slice of structs, so proved by hand.
 #[no_mangle]
 pub extern "C" fn lpt_write(list: &[Admission], lift: u32, out: &mut [u8]) -> i64
     ensures { λ r. ⌜ WrittenToC lift (now (list .entry)) (now (out .entry)) r (now (out .exit)) ⌝ }
 {
     written(writer::write(list, lift, out))
+}
+
+#[no_mangle]
+pub extern "C" fn lpt_write_keys(keys: &[u32], lift: u32, out: &mut [u8]) -> i64
+    ensures { λ r. ⌜ (r ≡ encoded (Writer.writeKeys (Writer.liftQuestion lift) lift (now (keys .entry)) (now (out .entry)))) × (now (out .exit) ≡ Writer.bufferAfterWriteKeys (Writer.liftQuestion lift) lift (now (keys .entry)) (now (out .entry))) ⌝ }
+{
+    written(writer::write_keys(keys, lift, out))
 }
 
 #[no_mangle]
@@ -150,7 +179,7 @@ pub extern "C" fn lpt_find(img: &[u8], rank: u32) -> i64
     ensures { λ r. ⌜ r ≡ encodedFind (Answer.find (now (img .entry)) rank) ⌝ }
 {
     match query::find(img, rank) {
-        ByRank::At(a) => answer((a.holder as usize) * 65536 + a.slot as usize),
+        ByRank::At(a) => admission(a),
         ByRank::Refused(n) => refusal(n),
     }
 }
