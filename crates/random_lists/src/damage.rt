@@ -1,13 +1,17 @@
-// Damaged images. One that is still accepted must be the exact image of its list and its lift.
+// Damaged images. One that is still accepted must be the exact image of its list and its lift, and is counted by what it is: the image as it was, the same
+// list for another lift, or another list.
 use crate::ask::member_count;
 use crate::ask::pick;
-use crate::tally::ACCEPTED;
 use crate::tally::DAMAGED;
+use crate::tally::OTHER_LIFT;
+use crate::tally::OTHER_LIST;
+use crate::tally::SAME_BYTES;
 use crate::tally::Tally;
 use crate::tally::expect;
 use crate::tally::note;
 use checker::Checked;
 use testing::Random;
+use testing::starts_with;
 use testing::starts_with_bytes;
 use testing::whole_square;
 use writer::Written;
@@ -38,32 +42,45 @@ fn is_image(keys: &[u32], image: &[u8]) -> bool {
     starts_with_bytes(&out, image)
 }
 
-// Whether an accepted image is what the writer makes of its listing.
-fn is_exact(image: &[u8]) -> bool {
-    let mut keys = [0u32; 4096];
-    let n = member_count(query::list(image, whole_square(), &mut keys));
-    if 4096 < n {
-        return false;
+// What an accepted image is, by its list and whether its lift is the one before the damage.
+fn kind(listed: &[u32], keys: &[u32], same_lift: bool) -> usize {
+    if listed.len() != keys.len() {
+        return OTHER_LIST;
     }
-    is_image(&keys[0..n], image)
+    if !starts_with(listed, keys) {
+        return OTHER_LIST;
+    }
+    if same_lift { SAME_BYTES } else { OTHER_LIFT }
 }
 
-// The judgement of a damaged image.
-fn judge(tally: Tally, image: &[u8]) -> Tally {
+// The judgement of an accepted image: whether it is what the writer makes of its listing, and what it is.
+fn judge_accepted(tally: Tally, image: &[u8], keys: &[u32], lift: u32) -> Tally {
+    let mut places = [0u32; 4096];
+    let n = member_count(query::list(image, whole_square(), &mut places));
+    if 4096 < n {
+        return expect(tally, DAMAGED, false);
+    }
+    let listed = &places[0..n];
+    let t = expect(tally, DAMAGED, is_image(listed, image));
+    note(t, kind(listed, keys, lift_of(image) == lift))
+}
+
+// The judgement of a damaged image of the keys for a lift.
+fn judge(tally: Tally, image: &[u8], keys: &[u32], lift: u32) -> Tally {
     match checker::check(image) {
         Checked::Refused(n) => note(expect(tally, DAMAGED, true), n as usize),
-        Checked::Accepted(_) => note(expect(tally, DAMAGED, is_exact(image)), ACCEPTED),
+        Checked::Accepted(_) => judge_accepted(tally, image, keys, lift),
     }
 }
 
 // The image with byte `at` changed, judged; the byte is changed back.
-fn change(tally: Tally, image: &mut [u8], at: usize, by: u8) -> Tally {
+fn change(tally: Tally, image: &mut [u8], keys: &[u32], lift: u32, at: usize, by: u8) -> Tally {
     if image.len() <= at {
         return tally;
     }
     let before = image[at];
     image[at] = before ^ by;
-    let t = judge(tally, image);
+    let t = judge(tally, image, keys, lift);
     image[at] = before;
     t
 }
@@ -96,22 +113,22 @@ fn swap_pages(image: &mut [u8], a: usize, b: usize) {
 }
 
 // Two pages exchanged, judged, and exchanged again.
-fn swap(tally: Tally, image: &mut [u8], a: usize, b: usize) -> Tally {
+fn swap(tally: Tally, image: &mut [u8], keys: &[u32], lift: u32, a: usize, b: usize) -> Tally {
     if a == b {
         return tally;
     }
     swap_pages(image, a, b);
-    let t = judge(tally, image);
+    let t = judge(tally, image, keys, lift);
     swap_pages(image, a, b);
     t
 }
 
 // The first bytes only.
-fn truncate(tally: Tally, image: &[u8], size: usize) -> Tally {
+fn truncate(tally: Tally, image: &[u8], keys: &[u32], lift: u32, size: usize) -> Tally {
     if image.len() <= size {
         return tally;
     }
-    judge(tally, &image[0..size])
+    judge(tally, &image[0..size], keys, lift)
 }
 
 // The bit of a byte.
@@ -132,36 +149,50 @@ fn places(random: Random, bytes: usize, page: usize) -> [usize; 5] {
 }
 
 // Each of the bytes changed in turn.
-fn change_each(tally: Tally, image: &mut [u8], at: [usize; 5], by: [u8; 5]) -> Tally {
+fn change_each(
+    tally: Tally,
+    image: &mut [u8],
+    keys: &[u32],
+    lift: u32,
+    at: [usize; 5],
+    by: [u8; 5],
+) -> Tally {
     let mut t = tally;
     let mut i: usize = 0;
     while i < 5 {
-        t = change(t, image, at[i], by[i]);
+        t = change(t, image, keys, lift, at[i], by[i]);
         i += 1;
     }
     t
 }
 
 // A bit of each of these bytes, two pages exchanged, and the end cut off.
-fn damage_at(tally: Tally, image: &mut [u8], random: Random, other: Random) -> Tally {
+fn damage_at(
+    tally: Tally,
+    image: &mut [u8],
+    keys: &[u32],
+    lift: u32,
+    random: Random,
+    other: Random,
+) -> Tally {
     let bytes = image.len();
     let page = pick(random, bytes / 64);
     let by = bit(other);
     let at = places(random, bytes, page);
-    let mut t = change_each(tally, image, at, [by, by, 1, 1, by]);
-    t = swap(t, image, page, pick(other, bytes / 64));
-    truncate(t, image, pick(other, bytes))
+    let mut t = change_each(tally, image, keys, lift, at, [by, by, 1, 1, by]);
+    t = swap(t, image, keys, lift, page, pick(other, bytes / 64));
+    truncate(t, image, keys, lift, pick(other, bytes))
 }
 
-// 40 random places.
-pub fn damage(tally: Tally, image: &mut [u8], seed: Random) -> Tally {
+// 40 random places of the image of the keys for a lift.
+pub fn damage(tally: Tally, image: &mut [u8], keys: &[u32], lift: u32, seed: Random) -> Tally {
     let mut t = tally;
     let mut random = seed;
     let mut i: u32 = 0;
     while i < 40 {
         random = testing::next(random);
         let other = testing::next(random);
-        t = damage_at(t, image, random, other);
+        t = damage_at(t, image, keys, lift, random, other);
         random = testing::next(other);
         i += 1;
     }

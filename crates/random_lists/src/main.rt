@@ -22,7 +22,7 @@ fn read(tally: Tally, keys: &[u32], lift: u32, image: &[u8], seed: Random) -> Ta
 // The same, and its damaged images.
 fn compare(tally: Tally, keys: &[u32], lift: u32, image: &mut [u8], seed: Random) -> Tally {
     let t = read(tally, keys, lift, image, seed);
-    damage::damage(t, image, seed)
+    damage::damage(t, image, keys, lift, seed)
 }
 
 // Writes the image of the keys for a lift, 0 for version 1, and compares.

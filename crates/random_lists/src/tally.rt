@@ -5,7 +5,7 @@ use testing::one_more;
 
 // Places 1 to 40 count the damaged images by the number that refused them; the places after them have the names below.
 pub struct Tally {
-    pub counts: [u32; 51],
+    pub counts: [u32; 53],
 }
 
 pub const LISTS: usize = 41;
@@ -24,18 +24,22 @@ pub const PAIRS: usize = 47;
 
 pub const DAMAGED: usize = 48;
 
-pub const ACCEPTED: usize = 49;
+pub const SAME_BYTES: usize = 49;
 
-pub const DIFFERENCES: usize = 50;
+pub const OTHER_LIFT: usize = 50;
+
+pub const OTHER_LIST: usize = 51;
+
+pub const DIFFERENCES: usize = 52;
 
 pub fn none() -> Tally {
-    Tally { counts: [0u32; 51] }
+    Tally { counts: [0u32; 53] }
 }
 
 // One more at a place.
 pub fn note(tally: Tally, place: usize) -> Tally {
     let mut counts = tally.counts;
-    if 51 <= place {
+    if 53 <= place {
         return tally;
     }
     counts[place] = one_more(counts[place]);
@@ -68,7 +72,7 @@ fn say_count(count: u32, text: &[u8], place: usize) -> usize {
     end
 }
 
-// The counts from LISTS to ACCEPTED.
+// The counts from LISTS to OTHER_LIST.
 fn say_counts(tally: Tally) {
     let text: &[u8] = b"\
         lists\n\
@@ -79,11 +83,13 @@ fn say_counts(tally: Tally) {
         scans\n\
         pairs of lists\n\
         damaged images\n\
-        of them accepted\n";
+        accepted, with the same bytes: two pages alike, exchanged\n\
+        accepted, with the same list for another lift\n\
+        accepted, with another list\n";
     let counts = tally.counts;
     let mut place: usize = 0;
     let mut i: usize = LISTS;
-    while i <= ACCEPTED {
+    while i <= OTHER_LIST {
         place = say_count(counts[i], text, place);
         i += 1;
     }

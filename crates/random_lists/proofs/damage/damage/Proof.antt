@@ -7,10 +7,10 @@ use Rattle.random_lists.proofs.damage.damage.Statement.{statement}
 use Rattle.random_lists.proofs.damage.damage.Tie as tie
 
 abbrev Inv-loop : tie.InvT-loop
-Inv-loop image₀ t₀ random₀ i₀ image t random i = (i ≤ 40) × (length image ≡ length image₀)
+Inv-loop image₀ keys lift t₀ random₀ i₀ image t random i = (i ≤ 40) × (length image ≡ length image₀)
 
 abbrev μ-loop : tie.MeasureT-loop
-μ-loop image₀ t₀ random₀ i₀ image t random i = 40 - i
+μ-loop image₀ keys lift t₀ random₀ i₀ image t random i = 40 - i
 
 pub damage-spec : {M : Type 1} → statement M
 damage-spec =
