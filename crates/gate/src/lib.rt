@@ -6,7 +6,8 @@ ghost use Prim.Native.Nat.{_≤_, _<_};
 ghost use lib.ListN.{length};
 ghost use Rattle.format.specs.Question.{settle};
 ghost use Rattle.format.specs.Scan;
-ghost use Rattle.gate.specs.Gate.{outcomeOf, gateQuestions, gateRecords, timeRight, lockoutOver};
+ghost use Rattle.gate.specs.Outcomes.{outcomeOf};
+ghost use Rattle.gate.specs.Gate.{gateQuestions, gateRecords, timeRight, lockoutOver};
 
 // What a scan gets.
 pub enum Scanned {

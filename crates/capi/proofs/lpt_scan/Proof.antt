@@ -2,7 +2,7 @@
 use mathlib.Core.Path.{sym, ap, _∙_}
 use Rattle.capi.proofs.Signed.{back-neg, back-pos}
 use Rattle.capi.specs.Encoding.{encoded}
-use Rattle.gate.specs.Gate.{outcomeOf}
+use Rattle.gate.specs.Outcomes.{outcomeOf}
 use borrow.Author.Needs.{needs}
 use Rattle.capi.proofs.lpt_scan.Statement.{statement}
 use Rattle.capi.proofs.lpt_scan.Tie as tie
