@@ -311,5 +311,6 @@ pages-end q out₀ first keys out head number from s end =
     record {
       bytes = s .out-is ∙ ap₂ (λ (a : List ℕ) (k : ℕ). take (64 * first) out₀ ++ (a ++ drop k out₀)) done size;
       roots-few = omega (arith, s .T-few, s .within);
+      memory = s .same-keys;
       lifted = s .lifted ∙ ap (heads 4) (part-all q 0 from (omega (arith, s .same-keys))) ∙ sym (roots-is q);
     }

@@ -12,7 +12,7 @@ use Rattle.format.proofs.HeaderBytes.{length-counts}
 use Rattle.format.proofs.WrittenPages.{length-bandBytes}
 use Rattle.image_writer.specs.declared.Plan.{Plan}
 use Rattle.packing.specs.Run.{Prefixes, bandAbove, rootsAbove}
-use Rattle.image_writer.specs.Image.{countsOf, pagesIn, BandRoom, BandDone, ImageRoom, bytesOfBand, bytesOfBands, pagesFrom}
+use Rattle.image_writer.specs.Image.{countsOf, pagesIn, BandRoom, BandDone, ImageRoom, BandsDone, bytesOfBand, bytesOfBands, pagesFrom}
 use Rattle.image_writer.proofs.Planning.{bandsUp, bands-up, roots-prefixes, pageCount, pages-append, first-ones, back-length}
 
 -- the pages before `first` are left: those of the bands above the first n of keys, b of them; `last` is the number after the last page
@@ -156,13 +156,16 @@ module _ (keys₀ out₀ counts : List ℕ) (last : ℕ) (keys out : List ℕ) (
         sum : before ≡ 1 + total (map pageCount (bandsUp (b - 1) (rootsAbove (take n keys))))
         sum = omega (arith, before-is, pages-sum)
 
-pub writing-end : (keys₀ out₀ counts : List ℕ) (last : ℕ) (keys out : List ℕ) (first n b : ℕ) → Writing keys₀ out₀ counts last keys out first n b → b ≤ 0 → out ≡ pagesFrom out₀ 1 (bytesOfBands keys₀)
+pub writing-end : (keys₀ out₀ counts : List ℕ) (last : ℕ) (keys out : List ℕ) (first n b : ℕ) → Writing keys₀ out₀ counts last keys out first n b → b ≤ 0 → BandsDone keys₀ out₀ keys out
 unfolding bytesOfBands pagesFrom total
 writing-end keys₀ out₀ counts last keys out first n b s none =
     let z : b ≡ 0 = omega arith in
     let d : bandsOf keys₀ ≡ s .done = s .bands-are ∙ ap (λ (k : ℕ). bandsUp k (take n keys) ++ s .done) z in
     let o : first ≡ 1 = s .first-is ∙ ap (λ (k : ℕ). 1 + total (map pageCount (bandsUp k (take n keys)))) z in
     let e : 64 * last ≡ 64 * 1 + length (flatMap bytesOfBand (bandsOf keys₀)) = sym (s .size) ∙ ap₂ (λ (k : ℕ) (l : List (List (List ℕ))). 64 * k + length (flatMap bytesOfBand l)) o (sym d) in
-    s .out-is
-    ∙ ap₂ (λ (k : ℕ) (l : List (List (List ℕ))). take (64 * k) out₀ ++ (flatMap bytesOfBand l ++ drop (64 * last) out₀)) o (sym d)
-    ∙ ap (λ (k : ℕ). take 64 out₀ ++ (flatMap bytesOfBand (bandsOf keys₀) ++ drop k out₀)) e
+    record {
+      bytes = s .out-is
+          ∙ ap₂ (λ (k : ℕ) (l : List (List (List ℕ))). take (64 * k) out₀ ++ (flatMap bytesOfBand l ++ drop (64 * last) out₀)) o (sym d)
+          ∙ ap (λ (k : ℕ). take 64 out₀ ++ (flatMap bytesOfBand (bandsOf keys₀) ++ drop k out₀)) e;
+      memory = s .same-keys;
+    }

@@ -7,6 +7,7 @@ use lib.ListN.{length, take, drop}
 use Rattle.format.specs.Seq.{total}
 use Rattle.format.specs.Writer.{bandsOf, bandBytes, bandCounts, pagesOf}
 use Rattle.packing.specs.Run.{Prefixes, bandAbove, rootsAbove}
+use Rattle.page_writer.specs.Memory.{Free}
 use Rattle.image_writer.specs.declared.Plan.{Plan}
 
 -- the page count and the root count of each band, and the pages of all
@@ -37,10 +38,11 @@ pub record BandRoom (prefixes out : List ℕ) (first : ℕ) : Type 0 where
   pub listed : Prefixes prefixes
   pub room : 64 * (first + length (pagesOf (bandAbove prefixes))) ≤ length out
 
--- the band's pages are filled in, and the prefixes have become those of its roots, so many
+-- the band's pages are filled in, and the prefixes of its roots, so many, stand in the first places
 pub record BandDone (prefixes out : List ℕ) (first : ℕ) (prefixes′ out′ : List ℕ) (roots : ℕ) : Type 0 where
   pub bytes : out′ ≡ pagesFrom out first (bytesOfBand (bandAbove prefixes))
   pub roots-few : roots ≤ length prefixes
+  pub memory : Free prefixes prefixes′
   pub lifted : take roots prefixes′ ≡ rootsAbove prefixes
 
 -- a plan, and a buffer with room for the image
@@ -48,3 +50,8 @@ pub record ImageRoom (keys out : List ℕ) (plan : Plan) : Type 0 where
   pub listed : Prefixes keys
   pub planned : Planned keys plan
   pub room : 64 * (1 + plan .pages) ≤ length out
+
+-- the pages of all bands are filled in
+pub record BandsDone (keys out keys′ out′ : List ℕ) : Type 0 where
+  pub bytes : out′ ≡ pagesFrom out 1 (bytesOfBands keys)
+  pub memory : Free keys keys′

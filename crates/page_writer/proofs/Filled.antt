@@ -141,5 +141,6 @@ module _ (page q : List ℕ) (count : ℕ) (head : Head) (g : PageRoom page q co
             bytes = filled-bytes;
             T-next = ap (head .root .0 +_) roots-found;
             B-next = ap (head .link .0 +_) links;
+            memory = d .memory;
             lifted = ap (λ (n : ℕ). drop n q₂) first ∙ d .lifted;
           }

@@ -29,8 +29,8 @@ pub record Scanned (page₀ q : List ℕ) (from end : ℕ) (page keys : List ℕ
   pub begun : from ≤ i
   pub some : i < length q
   pub last-read : y ≡ getD q i 0
-  pub unread : take i keys ≡ take i q
   pub behind : i ≤ first
+  pub kept : take first keys ≡ take first q
   pub first-place : first + length (parents (drop i q)) ≡ length q
   pub lifted : drop first keys ≡ parents (drop i q)
   pub place : node + length (nodesOver (drop i q)) ≡ end
@@ -61,6 +61,10 @@ drop-set : (l : List ℕ) (j v : ℕ) → j < length l → drop j (set l j v) �
 drop-set l j v h =
     drop-cons (set l j v) j 0 (omega (arith, length-set l j v))
     ∙ ap₂ _∷_ (getD-set-same l j v 0 h) (drop-set-lt (suc j) l j v (omega arith))
+
+-- what is as it was before a place is so before an earlier one
+pub less-kept : (l m : List ℕ) (n k : ℕ) → k ≤ n → take n l ≡ take n m → take k l ≡ take k m
+less-kept l m n k le e = sym (take-take k n l le) ∙ ap (take k) e ∙ take-take k n m le
 
 -- the current node of a page, once its bit is on
 module _ (page₀ q page : List ℕ) (from end i node byte : ℕ) (g : LevelRoom page₀ q from end) (lo : from ≤ i) (same : length page ≡ length page₀) (lt : node < 240)
@@ -116,8 +120,8 @@ module _ (page q : List ℕ) (from end : ℕ) (g : LevelRoom page q from end) wh
         begun = omega (arith, g .some);
         some = omega (arith, g .some);
         last-read = refl;
-        unread = take-set-le (length q - 1) q (length q - 1) (getD q (length q - 1) 0 / 2) (omega arith);
         behind = omega arith;
+        kept = take-set-le (length q - 1) q (length q - 1) (getD q (length q - 1) 0 / 2) (omega arith);
         first-place = omega (arith, ap length last-parent, g .some);
         lifted = drop-set q (length q - 1) (getD q (length q - 1) 0 / 2) (omega (arith, g .some)) ∙ ap (getD q (length q - 1) 0 / 2 ∷_) (ap (λ (j : ℕ). drop j q) e ∙ drop-length q) ∙ sym last-parent;
         place = omega (arith, ap length last-node, end-some);
@@ -129,7 +133,7 @@ module _ (page q : List ℕ) (from end : ℕ) (g : LevelRoom page q from end) wh
 
 module _ (page₀ q : List ℕ) (from end : ℕ) (page keys : List ℕ) (i y first node byte : ℕ) (s : Scanned page₀ q from end page keys i y first node byte) (more : from < i) where
   x-is : getD keys (i - 1) 0 ≡ getD q (i - 1) 0
-  x-is = sym (getD-take i keys (i - 1) 0 (omega arith)) ∙ ap (λ (l : List ℕ). getD l (i - 1) 0) (s .unread) ∙ getD-take i q (i - 1) 0 (omega arith)
+  x-is = sym (getD-take first keys (i - 1) 0 (omega (arith, s .behind))) ∙ ap (λ (l : List ℕ). getD l (i - 1) 0) (s .kept) ∙ getD-take first q (i - 1) 0 (omega (arith, s .behind))
 
   read-rest : drop i q ≡ y ∷ drop (suc i) q
   read-rest = drop-cons q i 0 (s .some) ∙ ap (_∷ drop (suc i) q) (sym (s .last-read))
@@ -142,9 +146,6 @@ module _ (page₀ q : List ℕ) (from end : ℕ) (page keys : List ℕ) (i y fir
   -- the prefix is below the one after it
   pub read-above : getD keys (i - 1) 0 < y
   read-above = (rw read-more at (from-drop q from (i - 1) (omega arith) (of-ascending (drop from q) (s .given .ordered)))) .0
-
-  less-unread : take (i - 1) keys ≡ take (i - 1) q
-  less-unread = sym (take-take (i - 1) i keys (omega arith)) ∙ ap (take (i - 1)) (s .unread) ∙ take-take (i - 1) i q (omega arith)
 
   -- with the parent of the one after it
   module _ (same : getD keys (i - 1) 0 / 2 ≡ y / 2) where
@@ -180,8 +181,8 @@ module _ (page₀ q : List ℕ) (from end : ℕ) (page keys : List ℕ) (i y fir
           begun = omega arith;
           some = omega (arith, s .some);
           last-read = x-is;
-          unread = less-unread;
           behind = omega (arith, s .behind);
+          kept = s .kept;
           first-place = ap (λ (l : List ℕ). first + length l) same-parents ∙ s .first-place;
           lifted = s .lifted ∙ sym same-parents;
           place = ap (λ (l : List ℕ). node + length l) same-level ∙ kept (nodesOver (drop i q)) ∙ s .place;
@@ -240,8 +241,8 @@ module _ (page₀ q : List ℕ) (from end : ℕ) (page keys : List ℕ) (i y fir
           begun = omega arith;
           some = omega (arith, s .some);
           last-read = x-is;
-          unread = take-set-le (i - 1) keys (first - 1) (getD keys (i - 1) 0 / 2) (omega (arith, s .behind)) ∙ less-unread;
           behind = omega (arith, s .behind);
+          kept = take-set-le (first - 1) keys (first - 1) (getD keys (i - 1) 0 / 2) (omega arith) ∙ less-kept keys q first (first - 1) (omega arith) (s .kept);
           first-place = omega (arith, ap length other-parents, s .first-place, first-some);
           lifted = drop-set keys (first - 1) (getD keys (i - 1) 0 / 2) (omega (arith, first-some)) ∙ ap (getD keys (i - 1) 0 / 2 ∷_) (ap (λ (j : ℕ). drop j keys) e ∙ s .lifted) ∙ sym other-parents;
           place = omega (arith, ap length other-level, s .place, node-some);
@@ -258,6 +259,8 @@ scanned-end page₀ p q from end page keys i y first node byte same s last =
     subst (λ (l : List ℕ). LevelDone page₀ l from end (set page (4 + node / 4) byte) keys (record { first = first; node = node })) same
     (record {
       place = rw (← e) (s .place);
+      first-is = rw (← e) (s .first-place);
+      kept = s .kept;
       bytes = s .held ∙ ap (λ (j : ℕ). withNodes page₀ (replicate node 0 ++ (nodesOver (drop j p) ++ drop end (nodesOf page₀)))) e;
       lifted = s .lifted ∙ ap (λ (j : ℕ). parents (drop j p)) e;
     })

@@ -17,12 +17,12 @@ use Rattle.format.proofs.RunHeads.{heads}
 use Rattle.format.proofs.Runs.{parents-heads}
 use Rattle.page_writer.specs.declared.Level.{Level}
 use Rattle.packing.specs.Run.{bandAbove, rootsAbove}
-use Rattle.page_writer.specs.Page.{nodesOf, withNodes, LevelRoom, LevelDone, LevelsRoom, LevelsDone}
+use Rattle.page_writer.specs.Page.{nodesOf, withNodes, LevelRoom, LevelDone, LevelsRoom, LevelsDone, MemoryAfter}
 use Rattle.packing.proofs.Runs.{Run, rest-run}
-use Rattle.packing.proofs.Bands.{shape, roots-are, heads-listed}
+use Rattle.packing.proofs.Bands.{shape, roots-are, heads-listed, heads-few}
 use Rattle.page_writer.proofs.Nodes.{nodes-back}
 use Rattle.page_writer.proofs.Filling.{length-with, with-own}
-use Rattle.page_writer.proofs.Levels.{nodes-few, zeros-small}
+use Rattle.page_writer.proofs.Levels.{nodes-few, zeros-small, less-kept}
 
 -- ---- nodes of a page with other nodes
 
@@ -107,6 +107,7 @@ pub record Reached (page₀ q : List ℕ) (count k j : ℕ) (page keys : List �
   pub last : ℕ
   pub run : Run first last q
   pub stage : Stage page₀ page (lastLevels q count j) n
+  pub memory : MemoryAfter q keys
   pub lifted : drop from keys ≡ heads j q
   pub left : n ≡ upwards q k j
 
@@ -117,15 +118,22 @@ module _ (page₀ q : List ℕ) (count k j : ℕ) (page keys : List ℕ) (from n
       stage-room page₀ page (lastLevels q count j) n (r .stage) keys (heads j q) from (r .lifted) (l .asc) (l .some) (omega (arith, r .left))
 
   pub reached-next : (page′ keys′ : List ℕ) (level : Level) → LevelDone page keys from n page′ keys′ level → Reached page₀ q count k (suc j) page′ keys′ (level .first) (level .node)
+  unfolding heads
   reached-next page′ keys′ level d =
       let l = heads-listed j _ _ q (r .run) in
       let e = ap (λ (p : List ℕ). length (nodesOver p)) (r .lifted) in
+      let up : parents (drop from keys) ≡ heads (suc j) q = ap parents (r .lifted) ∙ parents-heads j q in
+      let size : length (parents (drop from keys)) ≡ length (heads (suc j) q) = ap length up in
       record {
         first = r .first;
         last = r .last;
         run = r .run;
         stage = stage-next page₀ page (lastLevels q count j) n (r .stage) keys (heads j q) from (r .lifted) page′ keys′ level (l .asc) d;
-        lifted = d .lifted ∙ ap parents (r .lifted) ∙ parents-heads j q;
+        memory = record {
+          free = omega (arith, d .first-is, size, heads-listed (suc j) _ _ q (r .run) .some, length-drop (level .first) keys′, ap length (d .lifted), r .memory .free);
+          kept = less-kept keys′ keys (level .first) (length q - length (parents q)) (omega (arith, d .first-is, size, heads-few j (parents q), r .memory .free)) (d .kept) ∙ r .memory .kept;
+        };
+        lifted = d .lifted ∙ up;
         left = omega (arith, d .place, r .left, e);
       }
 
@@ -162,6 +170,7 @@ module _ (page q : List ℕ) (count : ℕ) (g : LevelsRoom page q count) where
           whole = omega (arith, length-replicate {A = ℕ} (240 - count) 0, g .fits);
           small = zeros-small (240 - count);
         };
+        memory = record { free = refl; kept = refl };
         lifted = refl;
         left = counted-levels;
       }
@@ -181,6 +190,7 @@ module _ (page q : List ℕ) (count : ℕ) (g : LevelsRoom page q count) where
             ∙ ap (λ (l : List ℕ). withNodes page (l ++ lastLevels q count 4)) none-left
             ∙ ap (withNodes page) (joined (nodesOver (heads 3 q)) (nodesOver (heads 2 q)) (nodesOver (heads 1 q)) (nodesOver (heads 0 q)) (replicate (240 - count) 0) ∙ ap (λ (b : List (List ℕ)). flatten b ++ replicate (240 - count) 0) (sym (four-levels q)));
         place = d .place;
+        memory = r .memory;
         lifted = r .lifted;
       }
     where

@@ -11,6 +11,7 @@ use Rattle.format.specs.Trie.{parents, nodesOver, onBits, bitOf}
 use Rattle.format.specs.Page.{nodeBytes, pairsOf, nodeCount}
 use Rattle.format.specs.Writer.{ascending, pageBytes, rootsIn}
 use Rattle.packing.specs.Run.{bandAbove, rootsAbove}
+use Rattle.page_writer.specs.Memory.{FreeFrom}
 use Rattle.page_writer.specs.declared.Head.{Head}
 use Rattle.page_writer.specs.declared.Level.{Level}
 
@@ -42,11 +43,17 @@ pub record LevelRoom (page prefixes : List ℕ) (from end : ℕ) : Type 0 where
   pub empty : take end (nodesOf page) ≡ replicate end 0
   pub small : All (λ n. n ≤ 3) (drop end (nodesOf page))
 
--- the level stands before `end`, and the prefixes have become their parents
+-- the level stands before `end`, and the parents of the prefixes from `from` on in the last places; the places before those are as they were
 pub record LevelDone (page prefixes : List ℕ) (from end : ℕ) (page′ prefixes′ : List ℕ) (level : Level) : Type 0 where
   pub place : level .node + length (nodesOver (drop from prefixes)) ≡ end
   pub bytes : page′ ≡ withNodes page (replicate (level .node) 0 ++ (nodesOver (drop from prefixes) ++ drop end (nodesOf page)))
+  pub first-is : level .first + length (parents (drop from prefixes)) ≡ length prefixes
+  pub kept : take (level .first) prefixes′ ≡ take (level .first) prefixes
   pub lifted : drop (level .first) prefixes′ ≡ parents (drop from prefixes)
+
+-- the memory after the levels above prefixes: free from the place of the first of their parents on
+abbrev pub MemoryAfter : List ℕ → List ℕ → Type 0
+MemoryAfter prefixes prefixes′ = FreeFrom (length prefixes - length (parents prefixes)) prefixes prefixes′
 
 -- a page without nodes, with room for the four levels above prefixes
 pub record LevelsRoom (page prefixes : List ℕ) (count : ℕ) : Type 0 where
@@ -57,10 +64,11 @@ pub record LevelsRoom (page prefixes : List ℕ) (count : ℕ) : Type 0 where
   pub fits : count ≤ 240
   pub empty : nodesOf page ≡ replicate 240 0
 
--- the levels are filled in, the fourth from a node on, and the prefixes have become those of the roots
+-- the levels are filled in, the fourth from a node on, and the prefixes of the roots stand in the last places
 pub record LevelsDone (page prefixes : List ℕ) (count : ℕ) (page′ prefixes′ : List ℕ) (level : Level) : Type 0 where
   pub bytes : page′ ≡ withNodes page (flatten (bandAbove prefixes) ++ replicate (240 - count) 0)
   pub place : level .node + length (nodesOver prefixes) ≡ count
+  pub memory : MemoryAfter prefixes prefixes′
   pub lifted : drop (level .first) prefixes′ ≡ rootsAbove prefixes
 
 -- room for the page of a run of prefixes, with T and B
@@ -73,9 +81,10 @@ pub record PageRoom (page prefixes : List ℕ) (count : ℕ) (head : Head) : Typ
   pub T-fits : head .root .0 + length prefixes ≤ 4096
   pub B-fits : head .link .0 + length prefixes ≤ 4096
 
--- the filled page, the T and B of the next, and the prefixes of the page's roots
+-- the filled page, the T and B of the next, and the prefixes of the page's roots in the last places
 pub record PageDone (page prefixes : List ℕ) (head : Head) (page′ prefixes′ : List ℕ) (head′ : Head) : Type 0 where
   pub bytes : page′ ≡ pageBytes (head .root .0) (head .link .0) (bandAbove prefixes) ++ drop 64 page
   pub T-next : head′ .root .0 ≡ head .root .0 + rootsIn (bandAbove prefixes)
   pub B-next : head′ .link .0 ≡ head .link .0 + onBits (getD (bandAbove prefixes) 3 [])
+  pub memory : MemoryAfter prefixes prefixes′
   pub lifted : drop (length prefixes - rootsIn (bandAbove prefixes)) prefixes′ ≡ rootsAbove prefixes

@@ -140,7 +140,7 @@ module _ (keys buffer : List ℕ) (plan : Plan) (g : Prefixes keys × Planned ke
 
 -- the question that got a no
 pub plan-refused : (lift : ℕ) (keys after buffer : List ℕ) (plan : Plan) → length keys ≤ 4096 → KeysPlanned lift keys after plan → 0 < plan .refusal → WrittenKeys yesTo35 lift keys buffer (Refused (plan .refusal)) buffer
-plan-refused lift keys after buffer plan few (unordered e r) h = rw (r .refusal-is) (not-ascending lift keys buffer few e)
+plan-refused lift keys after buffer plan few (unordered e r) h = rw (r .refusal-is) (not-ascending lift keys buffer few (e .0))
 plan-refused lift keys after buffer plan few (passed e p) h = absurd (omega (arith, p .no-refusal))
 
 -- a plan for keys, after the first pass

@@ -1,5 +1,5 @@
 -- `image_writer::plan_keys` meets its contract. Assumes nothing.
-use mathlib.Core.Path.{sym, _∙_}
+use mathlib.Core.Path.{refl, sym, _∙_}
 use borrow.Author.Tests.{not-true, not-false}
 use borrow.Author.Needs.{needs}
 use Rattle.image_writer.specs.Planning.{unordered, passed}
@@ -7,7 +7,7 @@ use Rattle.image_writer.proofs.plan_keys.Statement.{statement}
 use Rattle.image_writer.proofs.plan_keys.Tie as tie
 
 returns : tie.Need-returns
-returns c = unordered (sym (c .before .before .is-ascending .ensures) ∙ not-true _ (c .before .if1 .taken)) (c .refused .ensures)
+returns c = unordered (sym (c .before .before .is-ascending .ensures) ∙ not-true _ (c .before .if1 .taken), refl) (c .refused .ensures)
 
 planned-requires : tie.Need-planned-requires
 planned-requires c κs = record { few = c .before .before .before .before .before .pre; ordered = sym (c .before .before .is-ascending .ensures) ∙ not-false _ (c .before .if1 .left) }

@@ -16,6 +16,9 @@ sub-links : tie.Need-sub-links
 sub-links c =
     omega (arith, links-more _ _ _ _ (c .before .before .before .before .before .before .before .before .before .before .before .before .before .before .before .before .before .before .before .before .before .before .before .pre) _ (c .before .before .before .before .before .before .before .before .before .before .before .before .before .before .before .before .before .before .before .begin-page .ensures) _ _ _ (c .before .before .before .before .before .before .before .before .before .before .before .before .before .before .fill-levels .ensures) (c .before .before .before .before .before .before .before .before .before .before .before .before .before .before .fill-levels .kept .1 .0) (bytes-of (c .before .before .before .before .before .before .before .before .before .before .before .before .before .before .fill-levels .last .0) (λ i. c .before .before .before .before .before .before .before .before .before .before .before .before .slice-known4 .given i .fits)) _ (c .before .before .before .before .before .before .before .gather .ensures) _ _ (c .before .before .before .before .on-bits .ensures .0) (c .on-bits-before .ensures .0))
 
+add-link : tie.Need-add-t21
+add-link c = record { fits = omega (arith, c .before .before .before .before .before .before .before .before .before .before .before .before .before .before .before .before .before .before .before .before .before .before .before .before .before .pre .B-fits) }
+
 returns : tie.Need-returns
 returns c =
     page-done _ _ _ _ (c .before .before .before .before .before .before .before .before .before .before .before .before .before .before .before .before .before .before .before .before .before .before .before .before .before .pre) _ (c .before .before .before .before .before .before .before .before .before .before .before .before .before .before .before .before .before .before .before .before .before .begin-page .ensures) _ _ _ (c .before .before .before .before .before .before .before .before .before .before .before .before .before .before .before .before .fill-levels .ensures) (c .before .before .before .before .before .before .before .before .before .before .before .before .before .before .before .before .fill-levels .kept .1 .0) (bytes-of (c .before .before .before .before .before .before .before .before .before .before .before .before .before .before .before .before .fill-levels .last .0) (λ i. c .before .before .before .before .before .before .before .before .before .before .before .before .before .before .slice-known4 .given i .fits)) _ (c .before .before .before .before .before .before .before .before .before .gather .ensures) _ _ (c .before .before .before .before .before .before .on-bits .ensures .0) (c .before .before .on-bits-before .ensures .0)
@@ -32,7 +35,7 @@ fill-page-spec =
     (λ c κs. search needs)
     sub-links
     (λ c. search needs)
-    (λ c. search needs)
+    add-link
     (λ c. search needs)
     (λ c. search needs)
     returns)
