@@ -120,8 +120,7 @@ module _ (q out₀ : List ℕ) (first : ℕ) (keys out : List ℕ) (head : Head)
           B-fits = omega (arith, s .B-few, run-length, end-within, s .listed .few);
         })
 
-    module _ (page′ keys′ : List ℕ) (head′ : Head) (d′ : PageDone (take (length out - 64 * number) (drop (64 * number) out)) (take (from + run .end - from) (drop from keys)) head page′ keys′ head′)
-        (same : length keys′ ≡ length (take (from + run .end - from) (drop from keys))) where
+    module _ (page′ keys′ : List ℕ) (head′ : Head) (d′ : PageDone (take (length out - 64 * number) (drop (64 * number) out)) (take (from + run .end - from) (drop from keys)) head page′ keys′ head′) where
       abbrev K : List ℕ
       K = put from (from + run .end - from) keys keys′
 
@@ -144,7 +143,7 @@ module _ (q out₀ : List ℕ) (first : ℕ) (keys out : List ℕ) (head : Head)
       n-few = omega (arith, n-is, heads-few 4 (part from (from + run .end) q), run-length)
 
       keys-length : length keys′ ≡ run .end
-      keys-length = same ∙ ap length run-keys ∙ run-length
+      keys-length = d .memory .free ∙ run-length
 
       span : from + run .end - from ≡ run .end
       span = omega arith

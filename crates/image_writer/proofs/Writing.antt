@@ -96,7 +96,7 @@ module _ (keys₀ out₀ counts : List ℕ) (last : ℕ) (keys out : List ℕ) (
       let z : n - 0 ≡ n = omega arith in
       rw z (record { listed = s .listed; room = omega (arith, before-is, s .size, s .room, s .same-out) })
 
-  module _ (after out′ : List ℕ) (roots : ℕ) (d′ : BandDone (take (n - 0) keys) out (first - getD counts (2 * (b - 1)) 0) after out′ roots) (same : length after ≡ length (take (n - 0) keys)) where
+  module _ (after out′ : List ℕ) (roots : ℕ) (d′ : BandDone (take (n - 0) keys) out (first - getD counts (2 * (b - 1)) 0) after out′ roots) where
     z : n - 0 ≡ n
     z = omega arith
 
@@ -107,10 +107,10 @@ module _ (keys₀ out₀ counts : List ℕ) (last : ℕ) (keys out : List ℕ) (
     q-length = length-take-le n keys (s .within)
 
     first-roots : take roots (after ++ drop (n - 0) keys) ≡ rootsAbove (take n keys)
-    first-roots = first-ones keys n roots after (s .within) same (omega (arith, d .roots-few, q-length)) (d′ .lifted)
+    first-roots = first-ones keys n roots after (s .within) (d′ .memory) (omega (arith, d .roots-few, q-length)) (d′ .lifted)
 
     kept-keys : length (after ++ drop (n - 0) keys) ≡ length keys
-    kept-keys = back-length keys n roots after (s .within) same (omega (arith, d .roots-few, q-length)) (d′ .lifted)
+    kept-keys = back-length keys n roots after (s .within) (d′ .memory) (omega (arith, d .roots-few, q-length)) (d′ .lifted)
 
     -- the bytes of the band and those of the bands after it
     bytes-length : 64 * before + length (bytesOfBand (bandAbove (take n keys))) ≡ 64 * first

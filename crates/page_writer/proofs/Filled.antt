@@ -62,7 +62,7 @@ module _ (page q : List ℕ) (count : ℕ) (head : Head) (g : PageRoom page q co
   run : Run (getD q 0 0) (getD q (length q - 1) 0) q
   run = rest-run q 0 (of-ascending q (g .ordered)) (g .some)
 
-  module _ (p₂ q₂ : List ℕ) (level : Level) (d : LevelsDone p₁ q count p₂ q₂ level) (same : length q₂ ≡ length q) where
+  module _ (p₂ q₂ : List ℕ) (level : Level) (d : LevelsDone p₁ q count p₂ q₂ level) where
     roots-length : length (rootsAbove q) ≡ rootsIn (bandAbove q)
     roots-length = ap length (roots-is q) ∙ sym (roots-are _ _ q run)
 
@@ -135,7 +135,7 @@ module _ (page q : List ℕ) (count : ℕ) (head : Head) (g : PageRoom page q co
 
       pub page-done : PageDone page q head p₂ q₂ (record { root = record { 0 = head .root .0 + (length q₂ - level .first) }; link = record { 0 = head .link .0 + (all - before) } })
       page-done =
-          let first : length q - rootsIn (bandAbove q) ≡ level .first = omega (arith, roots-found, same, first-within) in
+          let first : length q - rootsIn (bandAbove q) ≡ level .first = omega (arith, roots-found, d .memory .free, first-within) in
           let links : all - before ≡ onBits (getD (bandAbove q) 3 []) = omega (arith, links-more) in
           record {
             bytes = filled-bytes;

@@ -32,16 +32,16 @@ fill-page-requires : tie.Need-fill-page-requires Inv-loop μ-loop
 fill-page-requires c κs = page-room _ _ _ _ _ _ _ _ (c .before .before .before .before .before .before .before .loop .inv) (c .before .before .before .before .before .before .loop-test .taken) _ (c .before .before .before .page-run .ensures)
 
 sub-move-down : tie.Need-sub-move-down Inv-loop μ-loop
-sub-move-down c = T-grows _ _ _ _ _ _ _ _ (c .before .before .before .before .before .before .before .before .before .before .before .before .before .before .before .loop .inv) (c .before .before .before .before .before .before .before .before .before .before .before .before .before .before .loop-test .taken) _ (c .before .before .before .before .before .before .before .before .before .before .before .page-run .ensures) _ _ _ (c .before .before .before .before .before .before .before .fill-page .ensures) (c .before .before .before .before .before .before .before .fill-page .kept .1 .0)
+sub-move-down c = T-grows _ _ _ _ _ _ _ _ (c .before .before .before .before .before .before .before .before .before .before .before .before .before .before .before .loop .inv) (c .before .before .before .before .before .before .before .before .before .before .before .before .before .before .loop-test .taken) _ (c .before .before .before .before .before .before .before .before .before .before .before .page-run .ensures) _ _ _ (c .before .before .before .before .before .before .before .fill-page .ensures)
 
 move-down-requires : tie.Need-move-down-requires Inv-loop μ-loop
-move-down-requires c κs = move-room _ _ _ _ _ _ _ _ (c .before .before .before .before .before .before .before .before .before .before .before .before .before .before .before .loop .inv) (c .before .before .before .before .before .before .before .before .before .before .before .before .before .before .loop-test .taken) _ (c .before .before .before .before .before .before .before .before .before .before .before .page-run .ensures) _ _ _ (c .before .before .before .before .before .before .before .fill-page .ensures) (c .before .before .before .before .before .before .before .fill-page .kept .1 .0)
+move-down-requires c κs = move-room _ _ _ _ _ _ _ _ (c .before .before .before .before .before .before .before .before .before .before .before .before .before .before .before .loop .inv) (c .before .before .before .before .before .before .before .before .before .before .before .before .before .before .loop-test .taken) _ (c .before .before .before .before .before .before .before .before .before .before .before .page-run .ensures) _ _ _ (c .before .before .before .before .before .before .before .fill-page .ensures)
 
 loop-less : tie.Need-loop-less Inv-loop μ-loop
 loop-less c = omega (arith, end-after _ _ _ _ _ _ _ _ (c .before .before .before .before .before .before .before .before .before .before .before .before .before .before .before .before .before .before .loop .inv) (c .before .before .before .before .before .before .before .before .before .before .before .before .before .before .before .before .before .loop-test .taken) _ (c .before .before .before .before .before .before .before .before .before .before .before .before .before .before .page-run .ensures), end-within _ _ _ _ _ _ _ _ (c .before .before .before .before .before .before .before .before .before .before .before .before .before .before .before .before .before .before .loop .inv) (c .before .before .before .before .before .before .before .before .before .before .before .before .before .before .before .before .before .loop-test .taken) _ (c .before .before .before .before .before .before .before .before .before .before .before .before .before .before .page-run .ensures))
 
 loop-again : tie.Need-loop-again Inv-loop μ-loop
-loop-again c = pages-next _ _ _ _ _ _ _ _ (c .before .before .before .before .before .before .before .before .before .before .before .before .before .before .before .before .before .before .loop .inv) (c .before .before .before .before .before .before .before .before .before .before .before .before .before .before .before .before .before .loop-test .taken) _ (c .before .before .before .before .before .before .before .before .before .before .before .before .before .before .page-run .ensures) _ _ _ (c .before .before .before .before .before .before .before .before .before .before .fill-page .ensures) (c .before .before .before .before .before .before .before .before .before .before .fill-page .kept .1 .0) _ (c .before .before .move-down .ensures)
+loop-again c = pages-next _ _ _ _ _ _ _ _ (c .before .before .before .before .before .before .before .before .before .before .before .before .before .before .before .before .before .before .loop .inv) (c .before .before .before .before .before .before .before .before .before .before .before .before .before .before .before .before .before .loop-test .taken) _ (c .before .before .before .before .before .before .before .before .before .before .before .before .before .before .page-run .ensures) _ _ _ (c .before .before .before .before .before .before .before .before .before .before .fill-page .ensures) _ (c .before .before .move-down .ensures)
 
 returns : tie.Need-returns Inv-loop μ-loop
 returns c = pages-end _ _ _ _ _ _ _ _ (c .before .loop .inv) (c .loop-test .left)
