@@ -17,7 +17,7 @@ use Rattle.format.specs.Header.{header, headerEnd, headerStart, mark, ve
 use Rattle.format.specs.Image.{bandLevels, bands, imageLevels, keyCount, keysOf, liftOf, pageCount, pageNumber, pagesBefore, rootCount, versionOf}
 use Rattle.format.specs.Question.{outLinksDue}
 use Rattle.format.specs.Writer.{bandBytes, bandCounts, bandsIn, bandsOf, imageOf, pagesOf}
-use Rattle.format.proofs.Lists.{all-get, all-numbers, length-numbers, length-flatMap, flatMap-map, numbers-split, total-append}
+use Rattle.format.proofs.Lists.{all-get, all-numbers, numbers-all, length-numbers, length-flatMap, flatMap-map, numbers-split, total-append}
 use Rattle.format.proofs.Trie.{Shape, levels-back}
 use Rattle.format.proofs.Shapes.{lastOn, lastOn-append, shape-append, Keys, descend-keys}
 use Rattle.format.proofs.Bytes.{twoBytes-back, zeros-are}
@@ -31,6 +31,11 @@ pub bands-back : (f : ℕ → List (List ℕ)) (xs : List ℕ) → All (λ x. le
 unfolding bandsIn flatMap
 bands-back f [] h = refl
 bands-back f (x ∷ xs) h = rw (take-at (f x) (flatMap f xs) 4 (h .0), drop-at (f x) (flatMap f xs) 4 (h .0)) (ap (f x ∷_) (bands-back f xs (h .1)))
+
+-- band b of the eight
+pub band-is : (band : ℕ → List (List ℕ)) (b : ℕ) → 1 ≤ b → b ≤ 8 → getD (map band bands) (b - 1) [] ≡ band b
+unfolding bands numbersFrom
+band-is band b lo hi = numbers-all (λ b. getD (map band bands) (b - 1) [] ≡ band b) 1 8 (refl, (refl, (refl, (refl, (refl, (refl, (refl, (refl, tt)))))))) b lo (omega arith)
 
 -- levels without nodes
 no-levels : (ls : List (List ℕ)) → Shape 0 ls → ls ≡ replicate (length ls) []

@@ -15,17 +15,17 @@ use Rattle.format.specs.Trie.{levelsOf, onBits}
 use Rattle.format.specs.Page.{firstSubtries, nodeCount}
 use Rattle.format.specs.Image.{bandLevels, bands, keysOf, liftOf, pageCount}
 use Rattle.format.specs.Question.{Yes}
-use Rattle.format.specs.Writer.{ascending, bandsOf, imageOf, pagesOf, roomQuestion, rootsIn}
+use Rattle.format.specs.Writer.{ascending, bandsOf, imageOf, pagesOf, pagesOfBand, roomQuestion, rootsIn}
 use Rattle.format.specs.Exact.{Accepted, WriterAccepts}
 use Rattle.format.specs.Bounds.{Bounded, PageBound, pagesNeeded}
-use Rattle.format.proofs.Lists.{all-numbers, map-same, numbers-all}
+use Rattle.format.proofs.Lists.{all-numbers, map-same}
 use Rattle.format.proofs.Jobs.{of-writable}
 use Rattle.format.proofs.Trie.{Fits}
 use Rattle.format.proofs.Members.{ascending-of, of-ascending, woven-fits}
 use Rattle.format.proofs.Subtries.{NodeBounds, first-shape, length-first, node-bounds, nodeCount-beside, nodeCount-parts}
 use Rattle.format.proofs.Pages.{Page, Paged, glue, glue-roots, glue-same}
 use Rattle.format.proofs.Read.{band-page-count}
-use Rattle.format.proofs.Back.{bands-of}
+use Rattle.format.proofs.Back.{band-is, bands-of}
 use Rattle.format.proofs.Accepted.{facts}
 use Rattle.format.proofs.Written.{Bands, Top, none, some, bytesOf, few-links, parts, the-pages}
 use Rattle.format.proofs.Forth.{bandAt, bandsOf-row, image-bytes, key-bands}
@@ -124,12 +124,8 @@ same-bounded f g m n e d k =
       size = omega (arith, k .size);
     }
 
-band-is : (band : ℕ → List (List ℕ)) (b : ℕ) → 1 ≤ b → b ≤ 8 → getD (map band bands) (b - 1) [] ≡ band b
-unfolding bands numbersFrom
-band-is band b lo hi = numbers-all (λ b. getD (map band bands) (b - 1) [] ≡ band b) 1 8 (refl, (refl, (refl, (refl, (refl, (refl, (refl, (refl, tt)))))))) b lo (omega arith)
-
 pages-needed : (keys : List ℕ) (band : ℕ → List (List ℕ)) → bandsOf keys ≡ map band bands → (b : ℕ) → 1 ≤ b → b ≤ 8 → pagesNeeded keys b ≡ length (pagesOf (band b))
-unfolding pagesNeeded
+unfolding pagesNeeded pagesOfBand
 pages-needed keys band e b lo hi = ap (λ (bs : List (List (List ℕ))). length (pagesOf (getD bs (b - 1) []))) e ∙ ap (λ (v : List (List ℕ)). length (pagesOf v)) (band-is band b lo hi)
 
 -- all of them, by the numbers of the bands or by the bands

@@ -3,19 +3,19 @@
 -- Assumes nothing.
 use mathlib.Core.Path.{_≡_}
 use mathlib.Core.Bool.{true}
-use mathlib.Core.List.{List, [], map}
-use Prim.Native.Nat.{ℕ, _-_, _^_, _≤_, _<_}
-use lib.ListN.{length, getD}
+use mathlib.Core.List.{List, map}
+use Prim.Native.Nat.{ℕ, _^_, _≤_, _<_}
+use lib.ListN.{length}
 use Rattle.format.specs.Seq.{All, total}
 use Rattle.format.specs.Key.{woven}
 use Rattle.format.specs.Image.{bands, pageCount}
 use Rattle.format.specs.Question.{Yes}
-use Rattle.format.specs.Writer.{ascending, bandsOf, imageOf, pagesOf, roomQuestion}
+use Rattle.format.specs.Writer.{ascending, imageOf, pagesOfBand, roomQuestion}
 use Rattle.format.specs.Exact.{Accepted, WriterAccepts}
 
 -- the pages that the image of a list of keys has in band b
 unfoldable pub pagesNeeded : List ℕ → ℕ → ℕ
-pagesNeeded keys b = length (pagesOf (getD (bandsOf keys) (b - 1) []))
+pagesNeeded keys b = length (pagesOfBand keys b)
 
 -- the bound on the pages of each band, on the pages of all, and on the bytes of the image
 pub record Bounded (pages : ℕ → ℕ) (bytes : ℕ) : Type 0 where

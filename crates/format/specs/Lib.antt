@@ -12,6 +12,7 @@ pub mod Scan
 pub mod History
 pub mod Text
 pub mod Exact
+pub mod Counters
 pub mod Bounds
 pub mod Flip
 pub mod Plates

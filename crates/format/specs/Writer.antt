@@ -1,6 +1,6 @@
 -- The image of a list of keys, and the writer's job.
 -- Assumes nothing.
-use Prim.Native.Nat.{ℕ, zero, suc, _+_}
+use Prim.Native.Nat.{ℕ, zero, suc, _+_, _-_}
 use mathlib.Core.Bool.{Bool, true, false, _&&_}
 use mathlib.Core.List.{List, [], _∷_, _++_, flatMap, flatten}
 use lib.Dec.{leb, ltb}
@@ -49,6 +49,10 @@ cut (n ∷ ns) band = firstSubtries n band ∷ cut ns (laterSubtries n band)
 -- the pages of a band
 unfoldable pub pagesOf : List (List ℕ) → List (List (List ℕ))
 pagesOf band = cut (subtriesPerPage (subtrieSizes (rootsIn band) band)) band
+
+-- the pages of band b, from 1, of a list of keys
+unfoldable pub pagesOfBand : List ℕ → ℕ → List (List (List ℕ))
+pagesOfBand keys b = pagesOf (getD (bandsOf keys) (b - 1) [])
 
 -- ---- bytes
 
