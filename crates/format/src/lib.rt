@@ -38,6 +38,13 @@ pub fn cross(link: OutLink) -> Root
     Root(link.0)
 }
 
+// The way back: the out-link that leads to a root.
+pub fn link_to(root: Root) -> OutLink
+    ensures { λ r. ⌜ crossed r ≡ root ⌝ }
+{
+    OutLink(root.0)
+}
+
 // Whether it is a lift number, 1 to 999: 35 asks it of an image, and of what the writer is to write.
 pub fn is_lift(n: usize) -> bool
     ensures { λ r. ⌜ r ≡ isLift n ⌝ }
