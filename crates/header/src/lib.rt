@@ -6,7 +6,7 @@ ghost use lib.ListN.{length, take, drop};
 ghost use Rattle.format.specs.Seq.{every, numbersFrom, total};
 ghost use Rattle.format.specs.Page.{numberAt};
 ghost use Rattle.format.specs.Image.{bands, versionOf, liftOf, keyCount, pageCount, pageNumber, rootCount};
-ghost use Rattle.format.specs.Question.{isZero, markRight, versionKnown, zerosRight, liftRight, countsFit, headerQuestions, firstNo};
+ghost use Rattle.format.specs.Question.{isZero, markRight, versionKnown, zerosRight, liftRight, countsFit, headerQuestions, firstNo, outLinksDue};
 ghost use Rattle.header.specs.Refusal.{refusalOf, countsPositive};
 
 fn wide(byte: u8) -> usize
@@ -64,6 +64,17 @@ pub fn root_count(image: &[u8], band: usize) -> usize
     ensures { λ r. ⌜ (r ≡ rootCount (now (image .entry)) band) × (r < 65536) ⌝ }
 {
     number(image, 6 + 4 * band)
+}
+
+// The out-links that band `band`, from 1 to 8, must have: the root count of the band below, or of band 8 the key count.
+pub fn links_due(image: &[u8], band: usize) -> usize
+    requires { ⌜ (64 ≤ length (now image)) × (band ≤ 8) ⌝ }
+    ensures { λ r. ⌜ (r ≡ outLinksDue (now (image .entry)) band) × (r < 65536) ⌝ }
+{
+    if band < 8 {
+        return root_count(image, band + 1);
+    }
+    key_count(image)
 }
 
 // The pages of all bands.
