@@ -245,11 +245,11 @@ module _ {img : List ℕ} {b first pages roots i t links nodes : ℕ} (u : Turn 
       within = u .within;
     }
 
-  module _ (h : pages ≤ i) (reached below : ℕ) (reached-is : reached ≡ links) (below-is : below ≡ outLinksDue img b) where
-    pub turn-13 : (reached ≡ below → ⊥) → refusalOf 13 ≡ firstNo (bandQuestions img b)
+  module _ (h : pages ≤ i) (due : ℕ) (due-is : due ≡ outLinksDue img b) where
+    pub turn-13 : (links ≡ due → ⊥) → refusalOf 13 ≡ firstNo (bandQuestions img b)
     unfolding refusalOf
-    turn-13 n = asking-13 img b i t links nodes (u .asking) (omega (arith, u .pages-are)) (λ e. n (reached-is ∙ e ∙ sym below-is))
+    turn-13 n = asking-13 img b i t links nodes (u .asking) (omega (arith, u .pages-are)) (λ e. n (e ∙ sym due-is))
 
-    pub turn-end : reached ≡ below → refusalOf 0 ≡ firstNo (bandQuestions img b)
+    pub turn-end : links ≡ due → refusalOf 0 ≡ firstNo (bandQuestions img b)
     unfolding refusalOf firstNo
-    turn-end e = sym (asking-end img b i t links nodes (u .asking) (omega (arith, u .pages-are)) (sym reached-is ∙ e ∙ below-is))
+    turn-end e = sym (asking-end img b i t links nodes (u .asking) (omega (arith, u .pages-are)) (e ∙ due-is))

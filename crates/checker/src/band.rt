@@ -2,8 +2,7 @@
 use crate::page::check_page;
 use format::OutLink;
 use format::Root;
-use format::cross;
-use header::key_count;
+use header::links_due;
 use header::number;
 use header::page_count;
 use header::root_count;
@@ -15,7 +14,7 @@ ghost use lib.Dec.{ltb};
 ghost use lib.ListN.{length};
 ghost use Rattle.format.specs.Page.{numberAt};
 ghost use Rattle.format.specs.Image.{bands};
-ghost use Rattle.format.specs.Question.{firstNo, bandQuestions, outLinksDue};
+ghost use Rattle.format.specs.Question.{firstNo, bandQuestions};
 ghost use Rattle.header.specs.Refusal.{refusalOf};
 ghost use Rattle.checker.specs.Paged.{Sized, BandAt};
 
@@ -29,17 +28,6 @@ fn next_root(image: &[u8], first: usize, i: usize, pages: usize, roots: usize) -
         return Root(number(image, 64 * (first + next)));
     }
     Root(roots)
-}
-
-// The root after the last of the band below band `band`. Below band 8 stand the keys.
-fn end_below(image: &[u8], band: usize) -> Root
-    requires { ⌜ (64 ≤ length (now image)) × (band ≤ 8) ⌝ }
-    ensures { λ r. ⌜ r .0 ≡ outLinksDue (now (image .entry)) band ⌝ }
-{
-    if band < 8 {
-        return Root(root_count(image, band + 1));
-    }
-    Root(key_count(image))
 }
 
 // The number of the first question of band `band` that gets a no, 0 where none does. The band's first page is page `first` of the image.
@@ -64,9 +52,8 @@ fn band_refusal(image: &[u8], band: usize, first: usize) -> u8
         nodes = found.nodes;
         i += 1;
     }
-    let reached = cross(links);
-    let below = end_below(image, band);
-    if reached.0 != below.0 {
+    // The number of the out-link after the band's last is how many the band has.
+    if links.0 != links_due(image, band) {
         return 13;
     }
     0
