@@ -131,9 +131,9 @@ pub record Climb (img : List ℕ) (page : Page) (words : Words) (place₀ place 
   pub small : bits < unit
   pub up : Up img (page .band) (page .index) (getD (prefixesAt img (4 * page .band)) (outLink img (page .band) (page .index) place₀) 0) place bits level
 
-pub climb-start : {img : List ℕ} {page : Page} {words : Words} (r : Ready img) (d : PageRead img page) → words ≡ page .words → (nodes n first : ℕ) → nodes ≡ page .nodes → first ≡ page .b → page .b ≤ n
-    → n < page .b + outLinkCount img (page .band) (page .index) → Climb img page words (nodes + (n - first)) (nodes + (n - first)) 0 1 0
-climb-start r d ew nodes n first en e from to =
+pub climb-start : {img : List ℕ} {page : Page} {words : Words} (r : Ready img) (d : PageRead img page) → words ≡ page .words → (nodes n : ℕ) → nodes ≡ page .nodes → page .b .0 ≤ n
+    → n < page .b .0 + outLinkCount img (page .band) (page .index) → Climb img page words (nodes + (n - page .b .0)) (nodes + (n - page .b .0)) 0 1 0
+climb-start r d ew nodes n en from to =
     record {
       ready = r;
       read = d;
@@ -243,17 +243,17 @@ module _ {img : List ℕ} {page : Page} {words : Words} {place₀ place bits uni
               omega (arith, climb-number)
               )
 
-  module _ (h : 4 ≤ level) (n first : ℕ) (e : first ≡ page .b) (from : page .b ≤ n) {nodes : ℕ} (en : nodes ≡ page .nodes) (start : place₀ ≡ nodes + (n - first)) where
+  module _ (h : 4 ≤ level) (n : ℕ) (from : page .b .0 ≤ n) {nodes : ℕ} (en : nodes ≡ page .nodes) (start : place₀ ≡ nodes + (n - page .b .0)) where
     four : level ≡ 4
     four = omega (arith, s .few)
 
-    pub climb-end : ClimbRight img (page .band) n (page .t + place) bits
+    pub climb-end : ClimbRight img (page .band) n (page .t .0 + place) bits
     climb-end =
         let d = s .read in
         let small : bits < 16 = omega (arith, s .small, s .unit-is, ap (2 ^_) four) in
         let u = up-end img (s .ready) (page .band) (d .from) (d .to) (page .index) (d .in-band) (s .up) four small in
         let link-is : outLink img (page .band) (page .index) place₀ ≡ n = omega (arith, d .b, d .nodes) in
-        let root-is : pageT img (page .band) (page .index) + place ≡ page .t + place = ap (_+ place) (sym (d .t)) in
+        let root-is : pageT img (page .band) (page .index) + place ≡ page .t .0 + place = ap (_+ place) (sym (d .t)) in
         record {
           within = omega (arith, u .0, root-is);
           small = small;

@@ -10,11 +10,11 @@ ghost use Rattle.climb.specs.Climb.{ClimbRight};
 use crate::select::on_bit;
 use format::OutLink;
 use format::Root;
-use format::cross;
+use format::link_to;
 use nodes::gather;
 use pages::PageHead;
 use pages::band_at;
-use pages::head_above;
+use pages::head_of_link;
 use pages::node_count;
 
 // A root of a band, and the four bits that lead from it to where the climb started.
@@ -23,15 +23,14 @@ pub struct Climbed {
     pub bits: u32,
 }
 
-// Climbs from the out-link of the page that leads to `below` to its root.
-fn climb(image: &[u8], head: PageHead, below: Root) -> Climbed
-    requires { ⌜ (Ready (now image)) × (HeadRead (now image) head) × (below .0 < 65536) × (head .b ≤ below .0) × (below .0 < head .b + head .links) ⌝ }
-    ensures { λ r. ⌜ ClimbRight (now (image .entry)) (head .band) (below .0) (r .root .0) (r .bits) ⌝ }
+// Climbs from an out-link of the page to its root.
+fn climb(image: &[u8], head: PageHead, link: OutLink) -> Climbed
+    requires { ⌜ (Ready (now image)) × (HeadRead (now image) head) × (link .0 < 65536) × (head .b .0 ≤ link .0) × (link .0 < head .b .0 + head .links) ⌝ }
+    ensures { λ r. ⌜ ClimbRight (now (image .entry)) (head .band) (link .0) (r .root .0) (r .bits) ⌝ }
 {
     let words = gather(image, 64 * head.number);
     let nodes = node_count(head, &words.before);
-    let first = cross(OutLink(head.b));
-    let mut place = nodes + (below.0 - first.0);
+    let mut place = nodes + (link.0 - head.b.0);
     let mut bits = 0;
     let mut unit = 1;
     let mut level = 0usize;
@@ -43,17 +42,17 @@ fn climb(image: &[u8], head: PageHead, below: Root) -> Climbed
         level += 1;
     }
     Climbed {
-        root: Root(head.t + place),
+        root: Root(head.t.0 + place),
         bits,
     }
 }
 
-// The key of a rank: band by band from the last upward.
+// The key of a rank: band by band from the last upward. The out-link of band 8 that leads to the key has the rank for its number.
 pub fn key_at(image: &[u8], rank: usize) -> u32
     requires { ⌜ (Ready (now image)) × (rank < keyCount (now image)) ⌝ }
     ensures { λ r. ⌜ r ≡ getD (keysOf (now (image .entry))) rank 0 ⌝ }
 {
-    let mut below = cross(OutLink(rank));
+    let mut link = OutLink(rank);
     let mut first = image.len() / 64;
     let mut key = 0u64;
     let mut unit = 1u64;
@@ -61,12 +60,11 @@ pub fn key_at(image: &[u8], rank: usize) -> u32
     while 0 < number {
         first -= header::page_count(image, number);
         let band = band_at(image, number, first);
-        let head = head_above(image, band, below);
-        let climbed = climb(image, head, below);
+        let head = head_of_link(image, band, link);
+        let climbed = climb(image, head, link);
         key += (climbed.bits as u64) * unit;
         unit *= 16;
-        let root = climbed.root;
-        below = root;
+        link = link_to(climbed.root);
         number -= 1;
     }
     key as u32

@@ -45,17 +45,17 @@ page-small r d =
     (omega (arith, ok .few-roots, d .roots), omega (arith, ok .within, d .nodes))
 
 module _ {img : List ℕ} {page : Page} {key : ℕ} (r : Ready img) (d : PageRead img page) where
-  pub follow-start : {n : ℕ} → page .t ≤ n → n < page .t + page .roots → AtPrefix img (4 * (page .band - 1)) n (key / 2 ^ (36 - 4 * page .band)) → Follow img page key (n - page .t) 0
+  pub follow-start : {n : ℕ} → page .t .0 ≤ n → n < page .t .0 + page .roots → AtPrefix img (4 * (page .band - 1)) n (key / 2 ^ (36 - 4 * page .band)) → Follow img page key (n - page .t .0) 0
   follow-start {n} h k at =
       let b = page .band in
       let i = page .index in
-      let t : page .t ≡ pageT img b i = d .t in
+      let t : page .t .0 ≡ pageT img b i = d .t in
       let w : depth b 0 ≡ 4 * (b - 1) = omega arith in
       let v : 36 - 4 * b ≡ 32 - depth b 0 = omega (arith, d .from) in
       let x : getD (prefixesAt img (depth b 0)) n 0 ≡ key / 2 ^ (32 - depth b 0) = ap (λ (m : ℕ). getD (prefixesAt img m) n 0) w ∙ at .prefix ∙ ap (λ (m : ℕ). key / 2 ^ m) v in
       let root : Reached img b i 0 (n - pageT img b i) n (getD (prefixesAt img (depth b 0)) n 0) =
       reached-root img (bytes r) (checked r) (r .some) b (d .from) (d .to) i n (d .in-band) (omega arith) (omega (arith, d .roots)) in
-      let here : Reached img b i 0 (n - page .t) n (key / 2 ^ (32 - depth b 0)) =
+      let here : Reached img b i 0 (n - page .t .0) n (key / 2 ^ (32 - depth b 0)) =
       subst (λ (p : ℕ). Reached img b i 0 (n - p) n (key / 2 ^ (32 - depth b 0))) (sym t) (subst (Reached img b i 0 (n - pageT img b i) n) x root) in
       record { ready = r; read = d; small = omega (arith, page-small r d); way = node n (omega arith) here }
 
@@ -141,12 +141,12 @@ module _ {img : List ℕ} {page : Page} {key place level : ℕ} (s : Follow img 
             ]
 
   -- past the fourth level
-  pub follow-end : 4 ≤ level → (page .nodes ≤ place) × AtPrefix img (4 * page .band) (page .b + (place - page .nodes)) (key / 2 ^ (32 - 4 * page .band))
+  pub follow-end : 4 ≤ level → (page .nodes ≤ place) × AtPrefix img (4 * page .band) (page .b .0 + (place - page .nodes)) (key / 2 ^ (32 - 4 * page .band))
   follow-end h = go (s .way)
     where
       d : PageRead img page
       d = s .read
 
-      go : OnWay img (page .band) (page .index) key level place → (page .nodes ≤ place) × AtPrefix img (4 * page .band) (page .b + (place - page .nodes)) (key / 2 ^ (32 - 4 * page .band))
+      go : OnWay img (page .band) (page .index) key level place → (page .nodes ≤ place) × AtPrefix img (4 * page .band) (page .b .0 + (place - page .nodes)) (key / 2 ^ (32 - 4 * page .band))
       go (node n k w) = absurd (omega arith)
       go (out e w) = (omega (arith, w .past, d .nodes), rw (d .b, d .nodes) (record { within = w .within; prefix = w .prefix }))

@@ -1,24 +1,22 @@
 -- A page as it is opened: its roots from two T's, its out-links from two B's.
 -- Assumes nothing.
 use mathlib.Core.Path.{_≡_, sym, ap, _∙_}
-use mathlib.Core.Bool.{Bool, cond}
 use mathlib.Core.List.{List, [], _∷_, map, map-append}
 use Prim.Native.Nat.{ℕ, suc, _+_, _-_, _*_, _≤_, _<_}
 use native.Mathlib.Nat.{zero-add}
 use native.Mathlib.Decide.{decLe}
 use native.Mathlib.Omega.{arith}
 use native.Mathlib.Numerals.{add-one}
-use borrow.Author.Tests.{le-ltb, lt-ltb}
 use lib.ListN.{length}
 use Rattle.format.specs.Seq.{numbersFrom, total, upTo}
-use Rattle.format.specs.Image.{keyCount, nextT, outLinkCount, pageB, pageCount, pageNumber, pageRoots, pageT, rootCount}
+use Rattle.format.specs.Image.{nextT, outLinkCount, pageB, pageCount, pageNumber, pageRoots, pageT, rootCount}
 use Rattle.format.specs.Question.{outLinksDue}
 use Rattle.format.proofs.Lists.{numbers-split, total-append}
 use Rattle.format.proofs.Counters.{B-counts}
 use Rattle.format.proofs.Read.{next-roots}
 use Rattle.format.proofs.Walk.{page-holds}
 use Rattle.pages.specs.declared.Band.{Band}
-use Rattle.pages.specs.Page.{Ready, BandRead, LastPage, headAt}
+use Rattle.pages.specs.Page.{Ready, BandRead, LastPage}
 use Rattle.pages.proofs.Pages.{bytes, checked, page-number, page-end, head-T, head-B}
 
 -- page i of a band, where t is its T and n the next
@@ -29,18 +27,15 @@ module _ {img : List ℕ} (r : Ready img) {band : Band} (d : BandRead img band) 
   pub in-image : 64 * (band .first + i) + 64 ≤ length img
   in-image = omega (arith, page-end r (band .number) i (d .from) (d .to) h, d .first)
 
-  module _ {t n : ℕ} (et : t ≡ headAt img (band .number) 0 i) (en : n ≡ nextT img (band .number) i) where
-    t-is : t ≡ pageT img (band .number) i
-    t-is = et ∙ head-T r (band .number) i
-
+  module _ {t n : ℕ} (et : t ≡ pageT img (band .number) i) (en : n ≡ nextT img (band .number) i) where
     next-is : pageT img (band .number) i + pageRoots img (band .number) i ≡ nextT img (band .number) i
     next-is = next-roots img (bytes r) (checked r) (band .number) (d .from) (d .to) i h
 
     pub T-le : t ≤ n
-    T-le = omega (arith, t-is, next-is)
+    T-le = omega (arith, next-is)
 
     pub roots-are : n - t ≡ pageRoots img (band .number) i
-    roots-are = omega (arith, t-is, next-is)
+    roots-are = omega (arith, next-is)
 
 -- the last page whose T is at or below a root's number has that root
 pub root-in : {img : List ℕ} (r : Ready img) {band : Band} (d : BandRead img band) {n i : ℕ} → LastPage img (band .number) 0 n i → n < rootCount img (band .number)
@@ -66,22 +61,12 @@ module _ {img : List ℕ} (r : Ready img) (b : ℕ) (lo : 1 ≤ b) (hi : b ≤ 8
       omega (arith, B-counts img (bytes r) (checked r) b lo hi i (omega arith), ap (outLinkCount img b) (zero-add i))
 
   -- the B after a page's
-  pub next-B : (i : ℕ) → i + 1 < pageCount img b → headAt img b 2 (i + 1) ≡ pageB img b i + outLinkCount img b i
-  next-B i h = head-B r b (i + 1) ∙ ap (pageB img b) (add-one i) ∙ checked r .page b (suc i) lo hi (omega arith) .counters
+  pub next-B : (i : ℕ) → i + 1 < pageCount img b → pageB img b (i + 1) ≡ pageB img b i + outLinkCount img b i
+  next-B i h = ap (pageB img b) (add-one i) ∙ checked r .page b (suc i) lo hi (omega arith) .counters
 
-  -- after the last page's stands the root count of the band below
-  pub next-B-roots : (i : ℕ) → i < pageCount img b → pageCount img b ≤ i + 1 → b < 8 → rootCount img (b + 1) ≡ pageB img b i + outLinkCount img b i
-  unfolding outLinksDue
-  next-B-roots i h k l =
-      ap (λ (t : Bool). cond t (rootCount img (b + 1)) (keyCount img)) (sym (lt-ltb b 8 l))
-      ∙ sym (links-all i (omega arith))
-
-  -- or the key count
-  pub next-B-keys : (i : ℕ) → i < pageCount img b → pageCount img b ≤ i + 1 → 8 ≤ b → keyCount img ≡ pageB img b i + outLinkCount img b i
-  unfolding outLinksDue
-  next-B-keys i h k l =
-      ap (λ (t : Bool). cond t (rootCount img (b + 1)) (keyCount img)) (sym (le-ltb b 8 l))
-      ∙ sym (links-all i (omega arith))
+  -- after the last page's stand the out-links that the band must have
+  pub next-B-last : (i : ℕ) → i < pageCount img b → pageCount img b ≤ i + 1 → outLinksDue img b ≡ pageB img b i + outLinkCount img b i
+  next-B-last i h k = sym (links-all i (omega arith))
 
 -- the last page whose B is at or below an out-link's number has that out-link
 pub link-in : {img : List ℕ} (r : Ready img) {band : Band} (d : BandRead img band) {n i : ℕ} → LastPage img (band .number) 2 n i → n < outLinksDue img (band .number)
@@ -89,7 +74,7 @@ pub link-in : {img : List ℕ} (r : Ready img) {band : Band} (d : BandRead img b
 link-in {img} r {band} d {n} {i} l h = (
   omega (arith, head-B r (band .number) i, l .at),
   elim (decLe (suc (suc i)) (pageCount img (band .number))) [
-    | yes k ↦ omega (arith, l .after (omega arith), next-B r (band .number) (d .from) (d .to) i (omega arith))
+    | yes k ↦ omega (arith, l .after (omega arith), head-B r (band .number) (i + 1), next-B r (band .number) (d .from) (d .to) i (omega arith))
     | no k ↦ omega (arith, links-all r (band .number) (d .from) (d .to) i (omega (arith, l .in-band)))
   ],
 )

@@ -65,10 +65,10 @@ module _ {img : List ℕ} (r : Ready img) where
   head-B b i = refl
 
   -- the T after a page's
-  pub next-T : (b i : ℕ) → 1 ≤ b → b ≤ 8 → i + 1 < pageCount img b → headAt img b 0 (i + 1) ≡ nextT img b i
+  pub next-T : (b i : ℕ) → 1 ≤ b → b ≤ 8 → i + 1 < pageCount img b → pageT img b (i + 1) ≡ nextT img b i
   next-T b i lo hi h =
       let e : i + 1 ≡ suc i = add-one i in
-      head-T b (i + 1) ∙ ap (pageT img b) e ∙ sym (next-more img bytes checked b lo hi i (omega arith))
+      ap (pageT img b) e ∙ sym (next-more img bytes checked b lo hi i (omega arith))
 
   pub next-none : (b i : ℕ) → 1 ≤ b → b ≤ 8 → i < pageCount img b → pageCount img b ≤ i + 1 → rootCount img b ≡ nextT img b i
   next-none b i lo hi h k = sym (next-last img bytes checked b lo hi i (omega arith))

@@ -40,8 +40,8 @@ pub record HeadRead (img : List ℕ) (head : PageHead) : Type 0 where
   pub to : head .band ≤ 8
   pub in-band : head .index < pageCount img (head .band)
   pub number : head .number ≡ pageNumber img (head .band) (head .index)
-  pub t : head .t ≡ pageT img (head .band) (head .index)
-  pub b : head .b ≡ pageB img (head .band) (head .index)
+  pub t : head .t .0 ≡ pageT img (head .band) (head .index)
+  pub b : head .b .0 ≡ pageB img (head .band) (head .index)
   pub roots : head .roots ≡ pageRoots img (head .band) (head .index)
   pub links : head .links ≡ outLinkCount img (head .band) (head .index)
 
@@ -51,8 +51,8 @@ pub record PageRead (img : List ℕ) (page : Page) : Type 0 where
   pub to : page .band ≤ 8
   pub in-band : page .index < pageCount img (page .band)
   pub number : page .number ≡ pageNumber img (page .band) (page .index)
-  pub t : page .t ≡ pageT img (page .band) (page .index)
-  pub b : page .b ≡ pageB img (page .band) (page .index)
+  pub t : page .t .0 ≡ pageT img (page .band) (page .index)
+  pub b : page .b .0 ≡ pageB img (page .band) (page .index)
   pub roots : page .roots ≡ pageRoots img (page .band) (page .index)
   pub nodes : page .nodes ≡ pageNodes img (page .band) (page .index)
   pub words : page .words ≡ wordsOf img (64 * page .number)

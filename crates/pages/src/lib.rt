@@ -2,9 +2,10 @@
 ghost use mathlib.Core.Path.{_≡_};
 ghost use Prim.Native.Nat.{_+_, _-_, _≤_, _<_};
 ghost use lib.ListN.{getD};
-ghost use Rattle.format.specs.Image.{pageB, pageNumber, pageCount, rootCount, nextT, outLinkCount};
+ghost use Rattle.format.specs.Image.{pageB, pageNumber, pageCount, pageT, rootCount, nextT, outLinkCount};
 ghost use Rattle.format.specs.Question.{outLinksDue};
 ghost use Rattle.pages.specs.Page.{Ready, BandRead, HeadRead, PageRead, LastPage, headAt};
+use format::OutLink;
 use format::Root;
 use nodes::Words;
 use nodes::gather;
@@ -24,8 +25,8 @@ pub struct Page {
     pub band: usize,
     pub index: usize,
     pub number: usize,
-    pub t: usize,
-    pub b: usize,
+    pub t: Root,
+    pub b: OutLink,
     pub roots: usize,
     pub nodes: usize,
     pub words: Words,
@@ -37,8 +38,8 @@ pub struct PageHead {
     pub band: usize,
     pub index: usize,
     pub number: usize,
-    pub t: usize,
-    pub b: usize,
+    pub t: Root,
+    pub b: OutLink,
     pub roots: usize,
     pub links: usize,
 }
@@ -56,7 +57,7 @@ pub fn band_at(image: &[u8], number: usize, first: usize) -> Band
     }
 }
 
-// T of page `index` of the band, or for `field` 2 its B.
+// The number of T of page `index` of the band, or for `field` 2 of its B.
 fn head_at(image: &[u8], band: Band, field: usize, index: usize) -> usize
     requires { ⌜ (Ready (now image)) × (BandRead (now image) band) × (field ≤ 2) × (index < pageCount (now image) (band .number)) ⌝ }
     ensures { λ r. ⌜ (r ≡ headAt (now (image .entry)) (band .number) field index) × (r < 65536) ⌝ }
@@ -64,7 +65,23 @@ fn head_at(image: &[u8], band: Band, field: usize, index: usize) -> usize
     header::number(image, 64 * (band.first + index) + field)
 }
 
-// The last page of the band whose T, or for `field` 2 whose B, is at or below `x`. The first page's is.
+// T of page `index` of the band: the page's first root.
+fn t_at(image: &[u8], band: Band, index: usize) -> Root
+    requires { ⌜ (Ready (now image)) × (BandRead (now image) band) × (index < pageCount (now image) (band .number)) ⌝ }
+    ensures { λ r. ⌜ r .0 ≡ pageT (now (image .entry)) (band .number) index ⌝ }
+{
+    Root(head_at(image, band, 0, index))
+}
+
+// B of page `index` of the band: the page's first out-link.
+fn b_at(image: &[u8], band: Band, index: usize) -> OutLink
+    requires { ⌜ (Ready (now image)) × (BandRead (now image) band) × (index < pageCount (now image) (band .number)) ⌝ }
+    ensures { λ r. ⌜ r .0 ≡ pageB (now (image .entry)) (band .number) index ⌝ }
+{
+    OutLink(head_at(image, band, 2, index))
+}
+
+// The last page of the band whose T is at or below root `x`, or for `field` 2 whose B is at or below out-link `x`. The first page's is.
 fn last_page(image: &[u8], band: Band, field: usize, x: usize) -> usize
     requires { ⌜ (Ready (now image)) × (BandRead (now image) band) × (field ≤ 2) × (headAt (now image) (band .number) field 0 ≤ x) ⌝ }
     ensures { λ r. ⌜ LastPage (now (image .entry)) (band .number) field x r ⌝ }
@@ -82,29 +99,26 @@ fn last_page(image: &[u8], band: Band, field: usize, x: usize) -> usize
     low
 }
 
-// The T of the page after page `index`, or after the last page the band's root count.
-fn next_t(image: &[u8], band: Band, index: usize) -> usize
+// The first root after page `index`: T of the next page, or after the last page the band's root count.
+fn next_t(image: &[u8], band: Band, index: usize) -> Root
     requires { ⌜ (Ready (now image)) × (BandRead (now image) band) × (index < pageCount (now image) (band .number)) ⌝ }
-    ensures { λ r. ⌜ r ≡ nextT (now (image .entry)) (band .number) index ⌝ }
+    ensures { λ r. ⌜ r .0 ≡ nextT (now (image .entry)) (band .number) index ⌝ }
 {
     if index + 1 < band.pages {
-        return head_at(image, band, 0, index + 1);
+        return t_at(image, band, index + 1);
     }
-    band.roots
+    Root(band.roots)
 }
 
-// The B of the page after page `index`, or after the last page the out-links that the band must have.
-fn next_b(image: &[u8], band: Band, index: usize) -> usize
+// The first out-link after page `index`: B of the next page, or after the last page the out-links that the band must have.
+fn next_b(image: &[u8], band: Band, index: usize) -> OutLink
     requires { ⌜ (Ready (now image)) × (BandRead (now image) band) × (index < pageCount (now image) (band .number)) ⌝ }
-    ensures { λ r. ⌜ r ≡ pageB (now (image .entry)) (band .number) index + outLinkCount (now (image .entry)) (band .number) index ⌝ }
+    ensures { λ r. ⌜ r .0 ≡ pageB (now (image .entry)) (band .number) index + outLinkCount (now (image .entry)) (band .number) index ⌝ }
 {
     if index + 1 < band.pages {
-        return head_at(image, band, 2, index + 1);
+        return b_at(image, band, index + 1);
     }
-    if band.number < 8 {
-        return header::root_count(image, band.number + 1);
-    }
-    header::key_count(image)
+    OutLink(header::links_due(image, band.number))
 }
 
 // The head of page `index` of the band.
@@ -112,34 +126,34 @@ fn page_head(image: &[u8], band: Band, index: usize) -> PageHead
     requires { ⌜ (Ready (now image)) × (BandRead (now image) band) × (index < pageCount (now image) (band .number)) ⌝ }
     ensures { λ r. ⌜ (HeadRead (now (image .entry)) r) × (r .band ≡ band .number) × (r .index ≡ index) ⌝ }
 {
-    let t = head_at(image, band, 0, index);
-    let b = head_at(image, band, 2, index);
+    let t = t_at(image, band, index);
+    let b = b_at(image, band, index);
     PageHead {
         band: band.number,
         index,
         number: band.first + index,
         t,
         b,
-        roots: next_t(image, band, index) - t,
-        links: next_b(image, band, index) - b,
+        roots: next_t(image, band, index).0 - t.0,
+        links: next_b(image, band, index).0 - b.0,
     }
 }
 
 // The head of the page of a band that has the root.
 pub fn head_of_root(image: &[u8], band: Band, root: Root) -> PageHead
     requires { ⌜ (Ready (now image)) × (BandRead (now image) band) × (root .0 < rootCount (now image) (band .number)) ⌝ }
-    ensures { λ r. ⌜ (HeadRead (now (image .entry)) r) × (r .band ≡ band .number) × (r .t ≤ root .0) × (root .0 < r .t + r .roots) ⌝ }
+    ensures { λ r. ⌜ (HeadRead (now (image .entry)) r) × (r .band ≡ band .number) × (r .t .0 ≤ root .0) × (root .0 < r .t .0 + r .roots) ⌝ }
 {
     let index = last_page(image, band, 0, root.0);
     page_head(image, band, index)
 }
 
-// The head of the page of a band that has the out-link to root `below` of the band below, or out of band 8 to the key of that rank.
-pub fn head_above(image: &[u8], band: Band, below: Root) -> PageHead
-    requires { ⌜ (Ready (now image)) × (BandRead (now image) band) × (below .0 < outLinksDue (now image) (band .number)) ⌝ }
-    ensures { λ r. ⌜ (HeadRead (now (image .entry)) r) × (r .band ≡ band .number) × (r .b ≤ below .0) × (below .0 < r .b + r .links) ⌝ }
+// The head of the page of a band that has the out-link.
+pub fn head_of_link(image: &[u8], band: Band, link: OutLink) -> PageHead
+    requires { ⌜ (Ready (now image)) × (BandRead (now image) band) × (link .0 < outLinksDue (now image) (band .number)) ⌝ }
+    ensures { λ r. ⌜ (HeadRead (now (image .entry)) r) × (r .band ≡ band .number) × (r .b .0 ≤ link .0) × (link .0 < r .b .0 + r .links) ⌝ }
 {
-    let index = last_page(image, band, 2, below.0);
+    let index = last_page(image, band, 2, link.0);
     page_head(image, band, index)
 }
 
@@ -154,16 +168,18 @@ pub fn node_count(head: PageHead, before: &[u16; 9]) -> usize
 // The page of a head.
 fn page_of(image: &[u8], head: PageHead) -> Page
     requires { ⌜ (Ready (now image)) × (HeadRead (now image) head) ⌝ }
-    ensures { λ r. ⌜ (PageRead (now (image .entry)) r) × (r .band ≡ head .band) × (r .t ≡ head .t) × (r .roots ≡ head .roots) ⌝ }
+    ensures { λ r. ⌜ (PageRead (now (image .entry)) r) × (r .band ≡ head .band) × (r .t .0 ≡ head .t .0) × (r .roots ≡ head .roots) ⌝ }
 {
     let words = gather(image, 64 * head.number);
     let nodes = node_count(head, &words.before);
+    let t = head.t;
+    let b = head.b;
     Page {
         band: head.band,
         index: head.index,
         number: head.number,
-        t: head.t,
-        b: head.b,
+        t,
+        b,
         roots: head.roots,
         nodes,
         words,
@@ -173,12 +189,12 @@ fn page_of(image: &[u8], head: PageHead) -> Page
 // The page of a band that has the root, tried first at index `hint`: a walk often stays in a page.
 pub fn page_near(image: &[u8], band: Band, root: Root, hint: usize) -> Page
     requires { ⌜ (Ready (now image)) × (BandRead (now image) band) × (root .0 < rootCount (now image) (band .number)) ⌝ }
-    ensures { λ r. ⌜ (PageRead (now (image .entry)) r) × (r .band ≡ band .number) × (r .t ≤ root .0) × (root .0 < r .t + r .roots) ⌝ }
+    ensures { λ r. ⌜ (PageRead (now (image .entry)) r) × (r .band ≡ band .number) × (r .t .0 ≤ root .0) × (root .0 < r .t .0 + r .roots) ⌝ }
 {
     if hint < band.pages {
         let head = page_head(image, band, hint);
-        if head.t <= root.0 {
-            if root.0 < head.t + head.roots {
+        if head.t.0 <= root.0 {
+            if root.0 < head.t.0 + head.roots {
                 return page_of(image, head);
             }
         }

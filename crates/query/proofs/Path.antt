@@ -96,18 +96,18 @@ module _ {img : List ℕ} {key : ℕ} {pages : List ℕ} {link first number : �
   path-at f e = rw (f, e) (s .at)
 
   -- the page of the root is the one on the key's path
-  path-page : number ≤ 8 → {root : ℕ} → root ≡ link → {page : Page} → PageRead img page → page .band ≡ number → page .t ≤ root → root < page .t + page .roots → page .number ≡ pageOf img key number
+  path-page : number ≤ 8 → {root : ℕ} → root ≡ link → {page : Page} → PageRead img page → page .band ≡ number → page .t .0 ≤ root → root < page .t .0 + page .roots → page .number ≡ pageOf img key number
   path-page h f {page} d e lo hi =
       let r = s .ready in
       let n : rootOf img key number ≡ link = root-is img (bytes r) (checked r) (r .some) key number link (s .at .within) (s .at .prefix) in
-      let t : page .t ≡ pageT img number (page .index) = d .t ∙ ap (λ (b : ℕ). pageT img b (page .index)) e in
+      let t : page .t .0 ≡ pageT img number (page .index) = d .t ∙ ap (λ (b : ℕ). pageT img b (page .index)) e in
       let k : page .roots ≡ pageRoots img number (page .index) = d .roots ∙ ap (λ (b : ℕ). pageRoots img b (page .index)) e in
       let m : page .index < pageCount img number = omega (arith, d .in-band, ap (pageCount img) e) in
       d .number ∙ ap (λ (b : ℕ). pageNumber img b (page .index)) e
       ∙ sym (page-is img (bytes r) (checked r) (r .some) key number (page .index) (s .from) h m (omega arith) (omega arith))
 
   pub path-next : number ≤ 8 → {band : Band} → BandRead img band → band .number ≡ number → {page : Page} → PageRead img page → page .band ≡ number
-      → {root : ℕ} → root ≡ link → page .t ≤ root → root < page .t + page .roots → {next : ℕ} → AtPrefix img (4 * number) next (key / 2 ^ (32 - 4 * number))
+      → {root : ℕ} → root ≡ link → page .t .0 ≤ root → root < page .t .0 + page .roots → {next : ℕ} → AtPrefix img (4 * number) next (key / 2 ^ (32 - 4 * number))
       → Path img key (set pages (number - 1) (page .number)) next (first + band .pages) (number + 1)
   unfolding numbersFrom
   path-next h {band} bd be {page} d e f lo hi {next} at =

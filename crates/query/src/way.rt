@@ -64,12 +64,12 @@ pub fn child_place<'a>(
 
 // Follows a key's four bits in a page from its root.
 fn follow(image: &[u8], head: PageHead, root: Root, key: u32) -> Way
-    requires { ⌜ (Ready (now image)) × (HeadRead (now image) head) × (head .t ≤ root .0) × (root .0 < head .t + head .roots) × (AtPrefix (now image) (4 * (head .band - 1)) (root .0) (key / 2 ^ (36 - 4 * head .band))) ⌝ }
+    requires { ⌜ (Ready (now image)) × (HeadRead (now image) head) × (head .t .0 ≤ root .0) × (root .0 < head .t .0 + head .roots) × (AtPrefix (now image) (4 * (head .band - 1)) (root .0) (key / 2 ^ (36 - 4 * head .band))) ⌝ }
     ensures { λ r. ⌜ WayRight (now (image .entry)) (head .band) key r ⌝ }
 {
     let words = gather(image, 64 * head.number);
     let nodes = node_count(head, &words.before);
-    let mut place = root.0 - head.t;
+    let mut place = root.0 - head.t.0;
     let mut level = 0;
     while level < 4 {
         let side = key_bit(key, 4 * (head.band - 1) + level);
@@ -79,7 +79,7 @@ fn follow(image: &[u8], head: PageHead, root: Root, key: u32) -> Way
         place = child_place(&words.word, &words.before, head.roots, place, side);
         level += 1;
     }
-    Way::Out(OutLink(head.b + (place - nodes)))
+    Way::Out(OutLink(head.b.0 + (place - nodes)))
 }
 
 // The rank of a key and the page numbers on its path.

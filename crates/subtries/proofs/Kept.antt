@@ -41,7 +41,7 @@ puts-at l e (v ∷ vs) (suc k) h f =
     ap (λ (j : ℕ). getD (puts (set l e v) (e + 1) vs) j 0) q ∙ puts-at (set l e v) (e + 1) vs k (omega arith) (omega (arith, length-set l e v))
 
 abbrev values : Spot → List ℕ
-values spot = spot .root .0 ∷ spot .end ∷ spot .at ∷ spot .first ∷ spot .second ∷ spot .third ∷ spot .fourth ∷ spot .link .0 ∷ []
+values spot = spot .root .0 ∷ spot .end .0 ∷ spot .at ∷ spot .first ∷ spot .second ∷ spot .third ∷ spot .fourth ∷ spot .link .0 ∷ []
 
 with-puts : (l : List ℕ) (e : ℕ) (spot : Spot) → withSpot l e spot ≡ puts l e (values spot)
 unfolding puts
@@ -61,7 +61,7 @@ spot-there l e spot h =
     let zeroth : spot .root .0 ≡ getD (puts l e (values spot)) e 0 = at 0 (omega arith) ∙ ap (λ (j : ℕ). getD (puts l e (values spot)) j 0) (add-zero e) in
     λ i. record {
       root = record { 0 = zeroth i };
-      end = at 1 (omega arith) i;
+      end = record { 0 = at 1 (omega arith) i };
       at = at 2 (omega arith) i;
       first = at 3 (omega arith) i;
       second = at 4 (omega arith) i;
@@ -81,7 +81,7 @@ spot-same l l′ e f =
     let zeroth : getD l e 0 ≡ getD l′ e 0 = ap (λ (j : ℕ). getD l j 0) (sym (add-zero e)) ∙ f 0 (omega arith) ∙ ap (λ (j : ℕ). getD l′ j 0) (add-zero e) in
     λ i. record {
       root = record { 0 = zeroth i };
-      end = f 1 (omega arith) i;
+      end = record { 0 = f 1 (omega arith) i };
       at = f 2 (omega arith) i;
       first = f 3 (omega arith) i;
       second = f 4 (omega arith) i;
@@ -91,7 +91,7 @@ spot-same l l′ e f =
     }
 
 -- the spots after one band's was put
-pub spots-keep : {img state : List ℕ} → Spots img state → (b : ℕ) → 1 ≤ b → b ≤ 8 → {spot : Spot} → (spot .root .0 < spot .end → SpotAt img b spot) → {after : List ℕ} → after ≡ withSpot state (8 * (b - 1)) spot → Spots img after
+pub spots-keep : {img state : List ℕ} → Spots img state → (b : ℕ) → 1 ≤ b → b ≤ 8 → {spot : Spot} → (spot .root .0 < spot .end .0 → SpotAt img b spot) → {after : List ℕ} → after ≡ withSpot state (8 * (b - 1)) spot → Spots img after
 spots-keep {img} {state} s b lo hi {spot} f {after} e =
     let e′ = e ∙ with-puts state (8 * (b - 1)) spot in
     subst (Spots img) (sym e′) (record { long = puts-length state (8 * (b - 1)) (values spot) ∙ s .long; each = each })
@@ -103,7 +103,7 @@ spots-keep {img} {state} s b lo hi {spot} f {after} e =
           | yes q ↦ let L = puts state (8 * (b - 1)) (values spot) in
               let there : spot ≡ spotIn L (8 * (b - 1)) = spot-there state (8 * (b - 1)) spot (omega (arith, s .long)) in
               let h′ : getD L (8 * (b - 1)) 0 < getD L (8 * (b - 1) + 1) 0 = subst (λ (k : ℕ). getD L (8 * (k - 1)) 0 < getD L (8 * (k - 1) + 1) 0) q h in
-              let right : SpotAt img b spot = f (omega (arith, ap (λ (t : Spot). t .root .0) there, ap (λ (t : Spot). t .end) there)) in
+              let right : SpotAt img b spot = f (omega (arith, ap (λ (t : Spot). t .root .0) there, ap (λ (t : Spot). t .end .0) there)) in
               subst (λ (k : ℕ). SpotAt img k (spotIn L (8 * (k - 1)))) (sym q) (subst (SpotAt img b) there right)
           | no q ↦ let L = puts state (8 * (b - 1)) (values spot) in
               let same : (k : ℕ) → k < 8 → getD L (8 * (c - 1) + k) 0 ≡ getD state (8 * (c - 1) + k) 0 =
@@ -121,7 +121,7 @@ abbrev pub spotAfter : List ℕ → ℕ → ℕ → ℕ → ℕ → ℕ → ℕ 
 spotAfter l e first second third fourth link =
     record {
       root = record { 0 = getD l e 0 + 1 };
-      end = getD l (e + 1) 0;
+      end = record { 0 = getD l (e + 1) 0 };
       at = getD l (e + 2) 0;
       first = first;
       second = second;

@@ -167,8 +167,8 @@ module _ {img : List ℕ} (r : Ready img) {b : ℕ} (lo : 1 ≤ b) (hi : b ≤ 8
   path-read = subtrie-read r lo hi s ep e₁ refl refl set-is
 
   -- the spot after it
-  pub path-next : {next : Spot} → next .root .0 ≡ spot .root .0 + 1 → next .end ≡ spot .end → next .at ≡ spot .at → next .first ≡ spot .first + 1 → next .second ≡ spot .second + 1
-      → next .third ≡ spot .third + 1 → next .fourth ≡ spot .fourth + 1 → {m : ℕ} → m ≡ ones four → next .link .0 ≡ spot .link .0 + m → next .root .0 < next .end → SpotAt img b next
+  pub path-next : {next : Spot} → next .root .0 ≡ spot .root .0 + 1 → next .end .0 ≡ spot .end .0 → next .at ≡ spot .at → next .first ≡ spot .first + 1 → next .second ≡ spot .second + 1
+      → next .third ≡ spot .third + 1 → next .fourth ≡ spot .fourth + 1 → {m : ℕ} → m ≡ ones four → next .link .0 ≡ spot .link .0 + m → next .root .0 < next .end .0 → SpotAt img b next
   path-next er en ea p₀ p₁ p₂ p₃ em el lt =
       next-spot r lo hi s ep e₁ refl refl set-is er en ea p₀
       (p₁ ∙ place₂ part (spot .second) (spot .third) (spot .fourth) e₂ e₃ e₄ v₁ v₂ v₃ n₁ n₂ n₃)

@@ -60,7 +60,7 @@ module _ {img : List ℕ} (r : Ready img) {b : ℕ} (lo : 1 ≤ b) (hi : b ≤ 8
         child-later p n (le-of-lt (start-fits r lo hi s ep later)),
       )
 
-  module _ {n : ℕ} (from : spot .root .0 ≤ n) (to : n < spot .end) where
+  module _ {n : ℕ} (from : spot .root .0 ≤ n) (to : n < spot .end .0) where
     -- where the levels of root n's subtrie start, and that they stand in the page
     later₀ : LevelStart img b (s .i) 0 1 (rootPrefix img b n) (spot .first + (n - spot .root .0))
     later₀ =
@@ -93,7 +93,7 @@ module _ {img : List ℕ} (r : Ready img) {b : ℕ} (lo : 1 ≤ b) (hi : b ≤ 8
           fits₃ = start-fits r lo hi s ep later₃
 
           -- the spot of the root
-          pub spot-later : {out : ℕ} → out ≡ onBitsFrom part (spot .fourth) four → {next : Spot} → next .root .0 ≡ n → next .end ≡ spot .end → next .at ≡ spot .at → next .first ≡ spot .first + (n - spot .root .0)
+          pub spot-later : {out : ℕ} → out ≡ onBitsFrom part (spot .fourth) four → {next : Spot} → next .root .0 ≡ n → next .end .0 ≡ spot .end .0 → next .at ≡ spot .at → next .first ≡ spot .first + (n - spot .root .0)
               → next .second ≡ spot .second + two → next .third ≡ spot .third + three → next .fourth ≡ spot .fourth + four → next .link .0 ≡ spot .link .0 + out → SpotAt img b next
           spot-later {out} eo {next} er en ea p₀ p₁ p₂ p₃ el =
               let y = rootPrefix img b (spot .root .0) in

@@ -139,8 +139,8 @@ module _ {img : List ℕ} (r : Ready img) {b : ℕ} (lo : 1 ≤ b) (hi : b ≤ 8
         band = b;
         index = s .i;
         number = pageNumber img b (s .i);
-        t = pageT img b (s .i);
-        b = pageB img b (s .i);
+        t = record { 0 = pageT img b (s .i) };
+        b = record { 0 = pageB img b (s .i) };
         roots = pageRoots img b (s .i);
         nodes = pageNodes img b (s .i);
         words = wordsOf img (64 * pageNumber img b (s .i));
@@ -157,7 +157,7 @@ module _ {img : List ℕ} (r : Ready img) {b : ℕ} (lo : 1 ≤ b) (hi : b ≤ 8
 
 -- ---- the next root of the page
 
-module _ {img : List ℕ} (r : Ready img) {b : ℕ} (lo : 1 ≤ b) (hi : b ≤ 8) {spot : Spot} (s : SpotAt img b spot) (more : spot .root .0 + 1 < spot .end) where
+module _ {img : List ℕ} (r : Ready img) {b : ℕ} (lo : 1 ≤ b) (hi : b ≤ 8) {spot : Spot} (s : SpotAt img b spot) (more : spot .root .0 + 1 < spot .end .0) where
   start-of : pageT img b (s .i) ≤ spot .root .0 + 1
   start-of = omega (arith, s .from)
 
@@ -245,10 +245,10 @@ module _ {img : List ℕ} (r : Ready img) {b : ℕ} (lo : 1 ≤ b) (hi : b ≤ 8
   subtrie-read = record { set-is = set-is r lo hi s ep e₁ e₂ e₃ e₄; link-is = s .link-is }
 
   -- the spot after it
-  pub next-spot : {next : Spot} → next .root .0 ≡ spot .root .0 + 1 → next .end ≡ spot .end → next .at ≡ spot .at → next .first ≡ spot .first + 1 → next .second ≡ placeAfter one 2 (spot .second) 2
-      → next .third ≡ placeAfter two 4 (spot .third) 4 → next .fourth ≡ placeAfter four 8 (spot .fourth) 8 → {m : ℕ} → m ≡ ones set → next .link .0 ≡ spot .link .0 + m → next .root .0 < next .end → SpotAt img b next
+  pub next-spot : {next : Spot} → next .root .0 ≡ spot .root .0 + 1 → next .end .0 ≡ spot .end .0 → next .at ≡ spot .at → next .first ≡ spot .first + 1 → next .second ≡ placeAfter one 2 (spot .second) 2
+      → next .third ≡ placeAfter two 4 (spot .third) 4 → next .fourth ≡ placeAfter four 8 (spot .fourth) 8 → {m : ℕ} → m ≡ ones set → next .link .0 ≡ spot .link .0 + m → next .root .0 < next .end .0 → SpotAt img b next
   next-spot {next} er en ea p₀ p₁ p₂ p₃ {m} em el lt =
-      let more : spot .root .0 + 1 < spot .end = omega (arith, er, en) in
+      let more : spot .root .0 + 1 < spot .end .0 = omega (arith, er, en) in
       let up = above r lo hi s more in
       record {
         i = s .i;
@@ -266,9 +266,9 @@ module _ {img : List ℕ} (r : Ready img) {b : ℕ} (lo : 1 ≤ b) (hi : b ≤ 8
 
 -- ---- the spot of a root, from its page
 
-pub spot-made : {img : List ℕ} (r : Ready img) {page : Page} (d : PageRead img page) {n : ℕ} (from : page .t ≤ n) (to : n < page .t + page .roots) {second third fourth past : ℕ}
-    → StartsRight (page .words .word) (page .words .before) (page .roots) (n - page .t) second third fourth past → {b : ℕ} → page .band ≡ b → {spot : Spot} → spot .root .0 ≡ n → spot .end ≡ page .t + page .roots
-    → spot .at ≡ 64 * page .number → spot .first ≡ n - page .t → spot .second ≡ second → spot .third ≡ third → spot .fourth ≡ fourth → spot .link .0 ≡ page .b + (past - page .nodes) → SpotAt img b spot
+pub spot-made : {img : List ℕ} (r : Ready img) {page : Page} (d : PageRead img page) {n : ℕ} (from : page .t .0 ≤ n) (to : n < page .t .0 + page .roots) {second third fourth past : ℕ}
+    → StartsRight (page .words .word) (page .words .before) (page .roots) (n - page .t .0) second third fourth past → {b : ℕ} → page .band ≡ b → {spot : Spot} → spot .root .0 ≡ n → spot .end .0 ≡ page .t .0 + page .roots
+    → spot .at ≡ 64 * page .number → spot .first ≡ n - page .t .0 → spot .second ≡ second → spot .third ≡ third → spot .fourth ≡ fourth → spot .link .0 ≡ page .b .0 + (past - page .nodes) → SpotAt img b spot
 spot-made {img} r {page} d {n} from to {second} {third} {fourth} {past} st {b} eb {spot} er en ea p₀ p₁ p₂ p₃ el =
     subst (λ (k : ℕ). SpotAt img k spot) eb
     (record {

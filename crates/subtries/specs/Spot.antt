@@ -35,8 +35,8 @@ pub record SpotAt (img : List ℕ) (b : ℕ) (spot : Spot) : Type 0 where
   pub i : ℕ
   pub in-band : i < pageCount img b
   pub from : pageT img b i ≤ spot .root .0
-  pub to : spot .root .0 < spot .end
-  pub end-is : spot .end ≡ pageT img b i + pageRoots img b i
+  pub to : spot .root .0 < spot .end .0
+  pub end-is : spot .end .0 ≡ pageT img b i + pageRoots img b i
   pub at-is : spot .at ≡ 64 * pageNumber img b i
   pub start₀ : LevelStart img b i 0 1 (rootPrefix img b (spot .root .0)) (spot .first)
   pub start₁ : LevelStart img b i 1 2 (2 * rootPrefix img b (spot .root .0)) (spot .second)
@@ -49,7 +49,7 @@ abbrev pub spotIn : List ℕ → ℕ → Spot
 spotIn l e =
     record {
       root = record { 0 = getD l e 0 };
-      end = getD l (e + 1) 0;
+      end = record { 0 = getD l (e + 1) 0 };
       at = getD l (e + 2) 0;
       first = getD l (e + 3) 0;
       second = getD l (e + 4) 0;
@@ -68,7 +68,7 @@ endIn l b = getD l (8 * (b - 1) + 1) 0
 -- the eight numbers put
 abbrev pub withSpot : List ℕ → ℕ → Spot → List ℕ
 withSpot l e spot =
-    set (set (set (set (set (set (set (set l e (spot .root .0)) (e + 1) (spot .end)) (e + 2) (spot .at)) (e + 3) (spot .first)) (e + 4) (spot .second)) (e + 5) (spot .third)) (e + 6) (spot .fourth)) (e + 7) (spot .link .0)
+    set (set (set (set (set (set (set (set l e (spot .root .0)) (e + 1) (spot .end .0)) (e + 2) (spot .at)) (e + 3) (spot .first)) (e + 4) (spot .second)) (e + 5) (spot .third)) (e + 6) (spot .fourth)) (e + 7) (spot .link .0)
 
 -- the root moved on by one and its place put, and the numbers put that change with it
 abbrev pub withRoot : List ℕ → ℕ → ℕ → List ℕ

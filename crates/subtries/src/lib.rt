@@ -32,7 +32,7 @@ use pages::page_near;
 // first out-link.
 pub struct Spot {
     pub root: Root,
-    pub end: usize,
+    pub end: Root,
     pub at: usize,
     pub first: usize,
     pub second: usize,
@@ -54,17 +54,17 @@ fn spot_of(image: &[u8], band: Band, root: Root, hint: usize) -> Spot
 {
     let page = page_near(image, band, root, hint);
     let words = page.words;
-    let first = root.0 - page.t;
+    let first = root.0 - page.t.0;
     let start = level_starts(&words.word, &words.before, page.roots, first);
     Spot {
         root,
-        end: page.t + page.roots,
+        end: Root(page.t.0 + page.roots),
         at: 64 * page.number,
         first,
         second: start.second,
         third: start.third,
         fourth: start.fourth,
-        link: OutLink(page.b + (start.past - page.nodes)),
+        link: OutLink(page.b.0 + (start.past - page.nodes)),
     }
 }
 
@@ -90,15 +90,8 @@ fn advance(image: &[u8], state: &mut [usize; 64], number: usize) -> Subtrie
         if two != 3 {
             if three != 3 {
                 let four = node(bytes, fourth);
-                let out = link.0 + on_bits(four);
-                move_starts(
-                    state,
-                    number,
-                    second + 1,
-                    third + 1,
-                    fourth + 1,
-                    OutLink(out),
-                );
+                let out = OutLink(link.0 + on_bits(four));
+                move_starts(state, number, second + 1, third + 1, fourth + 1, out);
                 return Subtrie {
                     set: path_set(one, two, three, four),
                     link,
@@ -109,15 +102,8 @@ fn advance(image: &[u8], state: &mut [usize; 64], number: usize) -> Subtrie
     let two = next_level(bytes, second, one, 2);
     let four = next_level(bytes, third, two.bits, 4);
     let last = next_level(bytes, fourth, four.bits, 8);
-    let out = link.0 + ones_in(last.bits as u64);
-    move_starts(
-        state,
-        number,
-        two.place,
-        four.place,
-        last.place,
-        OutLink(out),
-    );
+    let out = OutLink(link.0 + ones_in(last.bits as u64));
+    move_starts(state, number, two.place, four.place, last.place, out);
     Subtrie {
         set: last.bits,
         link,
@@ -141,7 +127,7 @@ fn seek(image: &[u8], state: &mut [usize; 64], number: usize, root: Root)
     let kept = load(state, number);
     let there = kept.root;
     if there.0 < root.0 {
-        if root.0 < kept.end {
+        if root.0 < kept.end.0 {
             let next = skip(image, number, kept, root);
             store(state, number, next);
             return;

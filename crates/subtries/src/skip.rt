@@ -10,7 +10,7 @@ use format::Root;
 
 // The spot of a later root of the page: on each level the nodes of the roots between are skipped, and their on bits are the nodes to skip on the next.
 pub fn skip(image: &[u8], number: usize, spot: Spot, root: Root) -> Spot
-    requires { ⌜ (Ready (now image)) × (1 ≤ number) × (number ≤ 8) × (SpotAt (now image) number spot) × (spot .root .0 ≤ root .0) × (root .0 < spot .end) ⌝ }
+    requires { ⌜ (Ready (now image)) × (1 ≤ number) × (number ≤ 8) × (SpotAt (now image) number spot) × (spot .root .0 ≤ root .0) × (root .0 < spot .end .0) ⌝ }
     ensures { λ r. ⌜ (SpotAt (now (image .entry)) number r) × (r .root .0 ≡ root .0) ⌝ }
 {
     let at = spot.at;
@@ -21,10 +21,11 @@ pub fn skip(image: &[u8], number: usize, spot: Spot, root: Root) -> Spot
     let three = on_bits_from(bytes, spot.second, two);
     let four = on_bits_from(bytes, spot.third, three);
     let out = on_bits_from(bytes, spot.fourth, four);
+    let end = spot.end;
     let link = spot.link;
     Spot {
         root,
-        end: spot.end,
+        end,
         at,
         first: spot.first + one,
         second: spot.second + two,

@@ -14,7 +14,7 @@ pub fn load(state: &[usize; 64], number: usize) -> Spot
     let e = 8 * (number - 1);
     Spot {
         root: Root(state[e]),
-        end: state[e + 1],
+        end: Root(state[e + 1]),
         at: state[e + 2],
         first: state[e + 3],
         second: state[e + 4],
@@ -31,9 +31,10 @@ pub fn store(state: &mut [usize; 64], number: usize, spot: Spot)
 {
     let e = 8 * (number - 1);
     let root = spot.root;
+    let end = spot.end;
     let link = spot.link;
     state[e] = root.0;
-    state[e + 1] = spot.end;
+    state[e + 1] = end.0;
     state[e + 2] = spot.at;
     state[e + 3] = spot.first;
     state[e + 4] = spot.second;

@@ -1,8 +1,7 @@
 -- `climb::climb` meets its contract. The loop's invariant: the climb from the out-link has come to a place. Assumes nothing.
-use mathlib.Core.Path.{_≡_, refl, ap}
+use mathlib.Core.Path.{_≡_, refl}
 use Prim.Native.Nat.{_+_, _-_, _*_, _%_, _≤_, _<_}
 use native.Mathlib.Omega.{arith}
-use borrow.Author.Needs.{needs}
 use Rattle.pages.proofs.Pages.{T-small}
 use Rattle.pages.proofs.Follow.{page-small}
 use Rattle.pages.proofs.Heads.{opened, opened-read, head-fits, nodes-asked, nodes-are}
@@ -21,19 +20,19 @@ node-count-requires : tie.Need-node-count-requires Inv-loop μ-loop
 node-count-requires c κs = let p = c .before .before .before .before .before .pre in nodes-asked (p .0) (p .1) (c .before .before .gather .ensures)
 
 sub-place : tie.Need-sub-place Inv-loop μ-loop
-sub-place c = omega (arith, c .before .before .before .before .before .before .before .before .before .pre .3, ap (λ x. x .0) (c .before .before .cross .ensures))
+sub-place c = c .before .before .before .before .before .before .before .before .pre .3
 
 add-place : tie.Need-add-place Inv-loop μ-loop
 add-place c =
-    let p = c .before .before .before .before .before .before .before .before .before .pre in
-    record { fits = omega (arith, p .2, page-small (p .0) (opened-read (p .1)), nodes-are (p .0) (p .1) (c .before .before .before .before .before .before .gather .ensures) (c .before .before .before .node-count .ensures)) }
+    let p = c .before .before .before .before .before .before .before .before .pre in
+    record { fits = omega (arith, p .2, page-small (p .0) (opened-read (p .1)), nodes-are (p .0) (p .1) (c .before .before .before .before .before .gather .ensures) (c .before .before .node-count .ensures)) }
 
 loop-holds : tie.Need-loop-holds Inv-loop μ-loop
 loop-holds c =
-    let p = c .before .before .before .before .before .before .before .before .before .pre in
-    let g = c .before .before .before .before .before .before .gather .ensures in
-    let n = nodes-are (p .0) (p .1) g (c .before .before .before .node-count .ensures) in
-    (n, climb-start (p .0) (opened-read (p .1)) g _ _ _ n (ap (λ x. x .0) (c .before .before .cross .ensures)) (p .3) (omega (arith, p .4, p .1 .links)))
+    let p = c .before .before .before .before .before .before .before .before .pre in
+    let g = c .before .before .before .before .before .gather .ensures in
+    let n = nodes-are (p .0) (p .1) g (c .before .before .node-count .ensures) in
+    (n, climb-start (p .0) (opened-read (p .1)) g _ _ n (p .3) (omega (arith, p .4, p .1 .links)))
 
 sub-number : tie.Need-sub-on-bit Inv-loop μ-loop
 sub-number c = let l = c .before .before .before .before in climb-number (l .before .loop .inv .1) (l .loop-test .taken)
@@ -52,24 +51,24 @@ loop-again c =
     let i = l .before .loop .inv in
     (i .0, climb-next (i .1) (l .loop-test .taken) (c .on-bit .ensures .0) (c .on-bit .ensures .1))
 
-add-root : tie.Need-add-t13 Inv-loop μ-loop
+add-root : tie.Need-add-t12 Inv-loop μ-loop
 add-root c =
     let i = c .before .before .loop .inv in
-    let s = c .before .before .before .before .before .before .before .before .before .before .before .before in
+    let s = c .before .before .before .before .before .before .before .before .before .before .before in
     let head = s .args .head in
     record {
       fits = omega (
         arith,
         s .pre .1 .t,
         T-small (s .pre .0) (head .band) (head .index),
-        climb-place (i .1) (c .before .loop-test .left) _ _ (ap (λ x. x .0) (c .before .before .before .before .before .cross .ensures)) (s .pre .3) (i .0) refl,
+        climb-place (i .1) (c .before .loop-test .left) _ (s .pre .3) (i .0) refl,
       );
     }
 
 returns : tie.Need-returns Inv-loop μ-loop
 returns c =
     let i = c .before .before .loop .inv in
-    climb-end (i .1) (c .before .loop-test .left) _ _ (ap (λ x. x .0) (c .before .before .before .before .before .cross .ensures)) (c .before .before .before .before .before .before .before .before .before .before .before .before .pre .3) (i .0) refl
+    climb-end (i .1) (c .before .loop-test .left) _ (c .before .before .before .before .before .before .before .before .before .before .before .pre .3) (i .0) refl
 
 pub climb-spec : {M : Type 1} → statement M
 climb-spec =
@@ -80,7 +79,6 @@ climb-spec =
     (λ c. let p = c .before .before .pre in omega (arith, head-fits (p .0) (p .1)))
     (λ c κs. let p = c .before .before .pre in head-fits (p .0) (p .1))
     node-count-requires
-    (λ c κs. search needs)
     sub-place
     add-place
     loop-holds

@@ -10,13 +10,13 @@ use Rattle.climb.proofs.key_at.Statement.{statement}
 use Rattle.climb.proofs.key_at.Tie as tie
 
 abbrev Inv-loop : tie.InvT-loop
-Inv-loop image rank below₀ first₀ key₀ unit₀ number₀ below first key unit number = Ranked image rank (below .0) first key unit number
+Inv-loop image rank link₀ first₀ key₀ unit₀ number₀ link first key unit number = Ranked image rank (link .0) first key unit number
 
 abbrev μ-loop : tie.MeasureT-loop
-μ-loop image rank below₀ first₀ key₀ unit₀ number₀ below first key unit number = number
+μ-loop image rank link₀ first₀ key₀ unit₀ number₀ link first key unit number = number
 
 loop-holds : tie.Need-loop-holds Inv-loop μ-loop
-loop-holds c = let p = c .before .before .pre in ranked-start (p .0) _ _ (p .1) (ap (λ x. x .0) (c .cross .ensures))
+loop-holds c = let p = c .before .pre in ranked-start (p .0) _ (p .1)
 
 page-count-requires : tie.Need-page-count-requires Inv-loop μ-loop
 page-count-requires c κs = let s = c .before .loop .inv in (header-long (s .ready), s .to)
@@ -32,15 +32,15 @@ band-at-requires c κs =
     let h = c .before .loop-test .taken in
     (s .ready, h, s .to, ranked-first s h (c .page-count .ensures .0) .1)
 
-head-above-requires : tie.Need-head-above-requires Inv-loop μ-loop
-head-above-requires c κs =
+head-of-link-requires : tie.Need-head-of-link-requires Inv-loop μ-loop
+head-of-link-requires c κs =
     let s = c .before .before .before .loop .inv in
     (s .ready, c .band-at .ensures .0, ranked-link s (c .before .before .loop-test .taken) (c .band-at .ensures .1))
 
 climb-requires : tie.Need-climb-requires Inv-loop μ-loop
 climb-requires c κs =
     let s = c .before .before .before .before .loop .inv in
-    let p = c .head-above .ensures in
+    let p = c .head-of-link .ensures in
     (s .ready, p .0, ranked-small s (c .before .before .before .loop-test .taken), p .2, p .3)
 
 -- the sums of a turn
@@ -64,7 +64,7 @@ unfolding pageCount
 loop-again c =
     let p = c .before .before .before in
     let l = p .before .before .before in
-    rw (p .before .before .page-count .ensures .0) (ranked-next (l .before .loop .inv) (l .loop-test .taken) (p .head-above .ensures .1 ∙ p .before .band-at .ensures .1) (c .before .before .climb .ensures))
+    rw (p .before .before .page-count .ensures .0) (ranked-next (l .before .loop .inv) (l .loop-test .taken) (p .head-of-link .ensures .1 ∙ p .before .band-at .ensures .1) (c .before .before .climb .ensures) (ap (λ x. x .0) (c .link-to .ensures)))
 
 pub key-at-spec : {M : Type 1} → statement M
 key-at-spec =
@@ -72,17 +72,17 @@ key-at-spec =
     (tie.spec
     Inv-loop
     μ-loop
-    (λ c κs. search needs)
     loop-holds
     page-count-requires
     sub-first
     band-at-requires
-    head-above-requires
+    head-of-link-requires
     climb-requires
     (λ c. search needs)
     mul-key
     add-key
     mul-unit
+    (λ c κs. search needs)
     (λ c. omega arith)
     (λ c. omega arith)
     loop-again

@@ -9,7 +9,7 @@ use Rattle.pages.proofs.next_t.Tie as tie
 returns : tie.Need-returns
 returns c =
     let p = c .before .before .before .before .pre in
-    c .head-at .ensures .0 ∙ next-T (p .0) _ _ (p .1 .from) (p .1 .to) (omega (arith, p .1 .pages, c .before .if1 .taken))
+    c .t-at .ensures ∙ next-T (p .0) _ _ (p .1 .from) (p .1 .to) (omega (arith, p .1 .pages, c .before .if1 .taken))
 
 returns-2 : tie.Need-returns-2
 returns-2 c =

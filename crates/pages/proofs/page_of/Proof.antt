@@ -10,9 +10,9 @@ node-count-requires c κs = let p = c .before .before .before .before .before .p
 
 returns : tie.Need-returns
 returns c =
-    let p = c .before .before .before .before .before .before .pre in
+    let p = c .before .before .before .before .before .before .before .before .pre in
     let d = p .1 in
-    let g = c .before .before .before .gather .ensures in (
+    let g = c .before .before .before .before .before .gather .ensures in (
       record {
         from = d .from;
         to = d .to;
@@ -21,7 +21,7 @@ returns c =
         t = d .t;
         b = d .b;
         roots = d .roots;
-        nodes = nodes-are (p .0) d g (c .node-count .ensures);
+        nodes = nodes-are (p .0) d g (c .before .before .node-count .ensures);
         words = g;
       },
       refl,

@@ -76,28 +76,28 @@ node-requires-4 c κs =
     let e = part-is (q .before .before .before .args .image .now) (q .load .result .at) in
     (part-length (p .0) (p .1) (p .2) (here q) e, start-fits (p .0) (p .1) (p .2) (here q) e (here q .start₃))
 
-add-out : tie.Need-add-out
+add-out : tie.Need-add-move-starts
 add-out c =
     let q = c .before .before .before .before .before .before .before .before .before .before .before .before .before in
     let p = q .before .before .before .pre in
     omega (arith, link-small (p .0) (p .1) (p .2) (here q), c .before .on-bits .ensures .1)
 
-add-move-starts : tie.Need-add-move-starts
-add-move-starts c =
+add-second : tie.Need-add-move-starts-2
+add-second c =
     let q = c .before .before .before .before .before .before .before .before .before .before .before .before .before .before in
     let p = q .before .before .before .pre in
     let e = part-is (q .before .before .before .args .image .now) (q .load .result .at) in
     omega (arith, start-fits (p .0) (p .1) (p .2) (here q) e (here q .start₁))
 
-add-move-starts-2 : tie.Need-add-move-starts-2
-add-move-starts-2 c =
+add-third : tie.Need-add-move-starts-3
+add-third c =
     let q = c .before .before .before .before .before .before .before .before .before .before .before .before .before .before in
     let p = q .before .before .before .pre in
     let e = part-is (q .before .before .before .args .image .now) (q .load .result .at) in
     omega (arith, start-fits (p .0) (p .1) (p .2) (here q) e (here q .start₂))
 
-add-move-starts-3 : tie.Need-add-move-starts-3
-add-move-starts-3 c =
+add-fourth : tie.Need-add-move-starts-4
+add-fourth c =
     let q = c .before .before .before .before .before .before .before .before .before .before .before .before .before .before in
     let p = q .before .before .before .pre in
     let e = part-is (q .before .before .before .args .image .now) (q .load .result .at) in
@@ -124,7 +124,7 @@ returns c =
       same-root q (path-read (p .0) (p .1) (p .2) (here q) e e₁ e₂ e₃ e₄ (i₁ .if1 .taken) (i₂ .if2 .taken) (i₃ .if3 .taken) (c .path-set .ensures)),
       spots-move (p .3) _ (p .1) (p .2)
           (path-next (p .0) (p .1) (p .2) (here q) e e₁ e₂ e₃ e₄ (i₁ .if1 .taken) (i₂ .if2 .taken) (i₃ .if3 .taken) (c .path-set .ensures)
-          (ap (λ (t : Spot). t .root .0 + 1) (sym (q .load .ensures))) (ap (λ (t : Spot). t .end) (sym (q .load .ensures))) (ap (λ (t : Spot). t .at) (sym (q .load .ensures))) refl refl refl refl o refl)
+          (ap (λ (t : Spot). t .root .0 + 1) (sym (q .load .ensures))) (ap (λ (t : Spot). t .end .0) (sym (q .load .ensures))) (ap (λ (t : Spot). t .at) (sym (q .load .ensures))) refl refl refl refl o refl)
           (m .move-root .ensures) (c .before .move-starts .ensures),
     )
 
@@ -149,7 +149,7 @@ next-level-requires-3 c κs =
     let e = part-is (q .before .before .before .args .image .now) (q .load .result .at) in
     (part-length (p .0) (p .1) (p .2) (here q) e, start-fits (p .0) (p .1) (p .2) (here q) e (here q .start₃), omega arith, omega arith, room₃ (p .0) (p .1) (p .2) (here q) e (c .before .before .before .before .before .before .before .node .ensures .0) (c .before .next-level .ensures .0) (c .next-level2 .ensures .0))
 
-add-out-2 : tie.Need-add-out-2
+add-out-2 : tie.Need-add-t22
 add-out-2 c =
     let q = c .before .before .before .before .before .before .before .before .before .before .before .before .before .before in
     let p = q .before .before .before .pre in
@@ -173,7 +173,7 @@ returns-2 c =
       same-root q (subtrie-read (p .0) (p .1) (p .2) (here q) e e₁ (e₂ .0) (e₃ .0) (e₄ .0)),
       spots-move (p .3) _ (p .1) (p .2)
           (next-spot (p .0) (p .1) (p .2) (here q) e e₁ (e₂ .0) (e₃ .0) (e₄ .0)
-          (ap (λ (t : Spot). t .root .0 + 1) (sym (q .load .ensures))) (ap (λ (t : Spot). t .end) (sym (q .load .ensures))) (ap (λ (t : Spot). t .at) (sym (q .load .ensures))) refl (e₂ .2) (e₃ .2) (e₄ .2) o refl)
+          (ap (λ (t : Spot). t .root .0 + 1) (sym (q .load .ensures))) (ap (λ (t : Spot). t .end .0) (sym (q .load .ensures))) (ap (λ (t : Spot). t .at) (sym (q .load .ensures))) refl (e₂ .2) (e₃ .2) (e₄ .2) o refl)
           (m .move-root .ensures) (c .move-starts2 .ensures),
     )
 
@@ -194,9 +194,9 @@ advance-spec =
     node-requires-4
     (λ c κs. c .node4 .ensures .1)
     add-out
-    add-move-starts
-    add-move-starts-2
-    add-move-starts-3
+    add-second
+    add-third
+    add-fourth
     (λ c κs. let p = c .before .before .before .before .before .before .before .before .before .before .before .before .before .before .before .before .before .pre in (p .1, p .2))
     (λ c κs. c .before .before .before .before .node4 .ensures .1)
     returns

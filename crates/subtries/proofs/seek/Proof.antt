@@ -17,7 +17,7 @@ kept : {img state after : List ℕ} {b root : ℕ} {spot : Spot} → Spots img s
     → (Spots img after) × (rootIn after b ≡ root) × (root < endIn after b)
 kept s lo hi found er e =
     let there = kept-there s _ hi e in
-    (spots-keep s _ lo hi (λ lt. found) e, sym (ap (λ (t : Spot). t .root .0) there) ∙ er, omega (arith, ap (λ (t : Spot). t .end) there, er, found .to))
+    (spots-keep s _ lo hi (λ lt. found) e, sym (ap (λ (t : Spot). t .root .0) there) ∙ er, omega (arith, ap (λ (t : Spot). t .end .0) there, er, found .to))
 
 skip-requires : tie.Need-skip-requires
 skip-requires c κs =
@@ -26,8 +26,8 @@ skip-requires c κs =
     let p = l .before .before .before .pre in
     let e = l .load .ensures in
     let before : l .load .result .root .0 < l .before .before .before .args .root .0 = i .if1 .taken in
-    let after : l .before .before .before .args .root .0 < l .load .result .end = c .if2 .taken in
-    (p .0, p .1, p .2, subst (SpotAt _ _) (sym e) (p .4 .each _ (p .1) (p .2) (omega (arith, ap (λ (t : Spot). t .root .0) e, ap (λ (t : Spot). t .end) e))), omega arith, after)
+    let after : l .before .before .before .args .root .0 < l .load .result .end .0 = c .if2 .taken in
+    (p .0, p .1, p .2, subst (SpotAt _ _) (sym e) (p .4 .each _ (p .1) (p .2) (omega (arith, ap (λ (t : Spot). t .root .0) e, ap (λ (t : Spot). t .end .0) e))), omega arith, after)
 
 returns : tie.Need-returns
 returns c =

@@ -22,21 +22,21 @@ add-end c =
     let r = q .before .before .pre .0 in
     omega (arith, d .t, T-small r (q .page-near .result .band) (q .page-near .result .index), page-small r d)
 
-mul-at : tie.Need-mul-t12
+mul-at : tie.Need-mul-t13
 mul-at c =
     let q = c .before .before .before .before .before .before .before .before .before in
     let d = q .page-near .ensures .0 in
     let r = q .before .before .pre .0 in
     omega (arith, d .number, page-number-small r (q .page-near .result .band) (q .page-near .result .index) (d .from) (d .to) (d .in-band))
 
-sub-link : tie.Need-sub-t13
+sub-link : tie.Need-sub-t14
 sub-link c =
     let l = c .before .before .before .before in
     let q = l .before .before .before .before .before .before .before in
     let e = q .page-near .ensures in
     link-is (q .before .before .pre .0) (e .0) (e .2) (e .3) (l .level-starts .ensures .past-is) .0
 
-add-link : tie.Need-add-t14
+add-link : tie.Need-add-t15
 add-link c =
     let l = c .before .before .before .before .before in
     let q = l .before .before .before .before .before .before .before in

@@ -72,7 +72,7 @@ returns-2 c =
     let l = c .before .before in
     let i = l .loop .inv in
     let a = c .before .before .before .before .before .before .before .before .before .before .before .args in
-    subst (λ n. AtPrefix (a .image .now) (4 * a .head .band) (a .head .b + (l .loop .place - n)) (a .key / 2 ^ (32 - 4 * a .head .band))) (sym (i .1)) (follow-end (i .2) (c .before .loop-test .left) .1)
+    subst (λ n. AtPrefix (a .image .now) (4 * a .head .band) (a .head .b .0 + (l .loop .place - n)) (a .key / 2 ^ (32 - 4 * a .head .band))) (sym (i .1)) (follow-end (i .2) (c .before .loop-test .left) .1)
 
 pub follow-spec : {M : Type 1} → statement M
 follow-spec =

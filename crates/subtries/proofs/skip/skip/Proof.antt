@@ -35,46 +35,46 @@ on-bits-from-requires-4 c κs =
     let e = part-is (q .args .image .now) (q .args .spot .at) in
     (part-length (p .0) (p .1) (p .2) (p .3) e, start-fits (p .0) (p .1) (p .2) (p .3) e (p .3 .start₃), omega (arith, fits₃ (p .0) (p .1) (p .2) (p .3) e (p .4) (p .5) (c .before .before .on-bits-from .ensures .0) (c .before .on-bits-from2 .ensures .0) (c .on-bits-from3 .ensures .0)))
 
-add-t14 : tie.Need-add-t14
-add-t14 c =
-    let q = c .before .before .before .before .before .before .before .before .before .before .before in
+add-first : tie.Need-add-t15
+add-first c =
+    let q = c .before .before .before .before .before .before .before .before .before .before .before .before in
     let p = q .pre in
     let e = part-is (q .args .image .now) (q .args .spot .at) in
     omega (arith, fits₀ (p .0) (p .1) (p .2) (p .3) e (p .4) (p .5))
 
-add-t16 : tie.Need-add-t16
-add-t16 c =
-    let q = c .before .before .before .before .before .before .before .before .before .before .before .before in
-    let p = q .pre in
-    let e = part-is (q .args .image .now) (q .args .spot .at) in
-    omega (arith, fits₁ (p .0) (p .1) (p .2) (p .3) e (p .4) (p .5) (c .before .before .before .before .before .before .on-bits-from .ensures .0))
-
-add-t18 : tie.Need-add-t18
-add-t18 c =
+add-second : tie.Need-add-t17
+add-second c =
     let q = c .before .before .before .before .before .before .before .before .before .before .before .before .before in
     let p = q .pre in
     let e = part-is (q .args .image .now) (q .args .spot .at) in
-    omega (arith, fits₂ (p .0) (p .1) (p .2) (p .3) e (p .4) (p .5) (c .before .before .before .before .before .before .before .on-bits-from .ensures .0) (c .before .before .before .before .before .before .on-bits-from2 .ensures .0))
+    omega (arith, fits₁ (p .0) (p .1) (p .2) (p .3) e (p .4) (p .5) (c .before .before .before .before .before .before .before .on-bits-from .ensures .0))
 
-add-t19 : tie.Need-add-t19
-add-t19 c =
+add-third : tie.Need-add-t19
+add-third c =
     let q = c .before .before .before .before .before .before .before .before .before .before .before .before .before .before in
     let p = q .pre in
     let e = part-is (q .args .image .now) (q .args .spot .at) in
-    omega (arith, fits₃ (p .0) (p .1) (p .2) (p .3) e (p .4) (p .5) (c .before .before .before .before .before .before .before .before .on-bits-from .ensures .0) (c .before .before .before .before .before .before .before .on-bits-from2 .ensures .0) (c .before .before .before .before .before .before .on-bits-from3 .ensures .0))
+    omega (arith, fits₂ (p .0) (p .1) (p .2) (p .3) e (p .4) (p .5) (c .before .before .before .before .before .before .before .before .on-bits-from .ensures .0) (c .before .before .before .before .before .before .before .on-bits-from2 .ensures .0))
 
-add-t20 : tie.Need-add-t20
-add-t20 c =
-    let q = c .before .before .before .before .before .before .before .before .before .before .before .before .before .before .before in
-    let p = q .pre in
-    omega (arith, link-small (p .0) (p .1) (p .2) (p .3), c .before .before .before .before .before .before .on-bits-from4 .ensures .1)
-
-returns : tie.Need-returns
-returns c =
+add-fourth : tie.Need-add-t20
+add-fourth c =
     let q = c .before .before .before .before .before .before .before .before .before .before .before .before .before .before .before in
     let p = q .pre in
     let e = part-is (q .args .image .now) (q .args .spot .at) in
-    (spot-later (p .0) (p .1) (p .2) (p .3) e (p .4) (p .5) (c .before .before .before .before .before .before .before .before .before .on-bits-from .ensures .0) (c .before .before .before .before .before .before .before .before .on-bits-from2 .ensures .0) (c .before .before .before .before .before .before .before .on-bits-from3 .ensures .0) (c .before .before .before .before .before .before .on-bits-from4 .ensures .0) refl refl refl refl refl refl refl refl, refl)
+    omega (arith, fits₃ (p .0) (p .1) (p .2) (p .3) e (p .4) (p .5) (c .before .before .before .before .before .before .before .before .before .on-bits-from .ensures .0) (c .before .before .before .before .before .before .before .before .on-bits-from2 .ensures .0) (c .before .before .before .before .before .before .before .on-bits-from3 .ensures .0))
+
+add-link : tie.Need-add-t21
+add-link c =
+    let q = c .before .before .before .before .before .before .before .before .before .before .before .before .before .before .before .before in
+    let p = q .pre in
+    omega (arith, link-small (p .0) (p .1) (p .2) (p .3), c .before .before .before .before .before .before .before .on-bits-from4 .ensures .1)
+
+returns : tie.Need-returns
+returns c =
+    let q = c .before .before .before .before .before .before .before .before .before .before .before .before .before .before .before .before in
+    let p = q .pre in
+    let e = part-is (q .args .image .now) (q .args .spot .at) in
+    (spot-later (p .0) (p .1) (p .2) (p .3) e (p .4) (p .5) (c .before .before .before .before .before .before .before .before .before .before .on-bits-from .ensures .0) (c .before .before .before .before .before .before .before .before .before .on-bits-from2 .ensures .0) (c .before .before .before .before .before .before .before .before .on-bits-from3 .ensures .0) (c .before .before .before .before .before .before .before .on-bits-from4 .ensures .0) refl refl refl refl refl refl refl refl, refl)
 
 pub skip-spec : {M : Type 1} → statement M
 skip-spec =
@@ -89,9 +89,9 @@ skip-spec =
     on-bits-from-requires-2
     on-bits-from-requires-3
     on-bits-from-requires-4
-    add-t14
-    add-t16
-    add-t18
-    add-t19
-    add-t20
+    add-first
+    add-second
+    add-third
+    add-fourth
+    add-link
     returns)

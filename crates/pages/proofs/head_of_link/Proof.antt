@@ -1,12 +1,12 @@
--- `pages::head_above` meets its contract. Assumes nothing.
+-- `pages::head_of_link` meets its contract. Assumes nothing.
 use mathlib.Core.Path.{ap₂, _∙_}
 use native.Mathlib.Omega.{arith}
 use borrow.Author.Needs.{needs}
 use Rattle.format.specs.Image.{outLinkCount, pageB}
 use Rattle.pages.proofs.Pages.{first-B}
 use Rattle.pages.proofs.Opened.{link-in}
-use Rattle.pages.proofs.head_above.Statement.{statement}
-use Rattle.pages.proofs.head_above.Tie as tie
+use Rattle.pages.proofs.head_of_link.Statement.{statement}
+use Rattle.pages.proofs.head_of_link.Tie as tie
 
 last-page-requires : tie.Need-last-page-requires
 last-page-requires c κs =
@@ -22,5 +22,5 @@ returns c =
     let n = e .0 .links ∙ ap₂ (outLinkCount (s .args .image .now)) (e .1) (e .2) in
     (e .0, e .1, omega (arith, h .0), omega (arith, h .1))
 
-pub head-above-spec : {M : Type 1} → statement M
-head-above-spec = tie.close (tie.spec last-page-requires (λ c κs. search needs) returns)
+pub head-of-link-spec : {M : Type 1} → statement M
+head-of-link-spec = tie.close (tie.spec last-page-requires (λ c κs. search needs) returns)

@@ -1,0 +1,12 @@
+-- `pages::t_at` meets its contract. Assumes nothing.
+use mathlib.Core.Path.{_∙_}
+use borrow.Author.Needs.{needs}
+use Rattle.pages.proofs.Pages.{head-T}
+use Rattle.pages.proofs.t_at.Statement.{statement}
+use Rattle.pages.proofs.t_at.Tie as tie
+
+returns : tie.Need-returns
+returns c = c .head-at .ensures .0 ∙ head-T (c .before .before .pre .0) _ _
+
+pub t-at-spec : {M : Type 1} → statement M
+t-at-spec = tie.close (tie.spec (λ c κs. search needs) returns)
