@@ -1,7 +1,7 @@
 // The writer: from a list of admissions or keys to its image in a lent buffer. The image is planned first (crate image_writer), so that
 // nothing is written where the buffer is too small, and then filled. Both passes share one array: the first uses up the first keys only,
 // which are put there again for the second.
-mod list; // list.rt: the lent list of admissions, packed and woven into keys
+mod list; // list.rt: the lent list of admissions, woven into keys
 
 use format::Admission;
 use image_writer::Plan;
@@ -89,17 +89,17 @@ pub fn write_keys(keys: &[u32], lift: u32, out: &mut [u8]) -> Written
 }
 
 // The job: writes the image of the list for a lift, in version 2, into the first bytes of the buffer, and returns its length. It and
-// `write_first` are proved by hand, as list::pack_first is: the borrow checker covers no function over a lent slice of structs.
+// `write_first` are proved by hand, as list::weave_first is: the borrow checker covers no function over a lent slice of structs.
 pub fn write(list: &[Admission], lift: u32, out: &mut [u8]) -> Written
     ensures { λ r. ⌜ WrittenList lift (now (list .entry)) (now (out .entry)) r (now (out .exit)) ⌝ }
 {
     let n = list.len();
     let mut keys = [0; 4096];
-    list::pack_first(list, &mut keys, n);
-    let plan = list::plan_packed(&mut keys, n, lift);
+    list::weave_first(list, &mut keys, n);
+    let plan = list::plan_first(&mut keys, n, lift);
     let used = image_writer::used_up(plan);
-    list::pack_first(list, &mut keys, used);
-    list::fill_packed(&mut keys, n, out, plan)
+    list::weave_first(list, &mut keys, used);
+    list::fill_first(&mut keys, n, out, plan)
 }
 
 // The same for a caller that owns an array of admissions, of which the first `n` are the list. Such a caller needs no proof by hand.

@@ -2,9 +2,7 @@
 ghost use mathlib.Core.Path.{_≡_};
 ghost use Prim.Native.Nat.{_<_};
 ghost use Rattle.format.specs.Key.{spread, gather, keyOf, holderOf, slotOf};
-ghost use mathlib.Core.List.{map};
 ghost use Rattle.zorder.specs.Table.{IsSpreads};
-ghost use Rattle.zorder.specs.Packed.{keyOfPacked};
 use format::Admission;
 
 // The spread of every byte: bit i of the byte stands at place 2 i.
@@ -267,7 +265,14 @@ const SPREAD: [u16; 256] = [
     21845,
 ];
 
-// The spread of a number, taken over both bytes. The table is lent, since a function that names it has a copy of its own.
+// The table, for a caller that weaves many: each function that names it has a copy of its own.
+pub fn spread_table() -> [u16; 256]
+    ensures { λ r. ⌜ IsSpreads r ⌝ }
+{
+    SPREAD
+}
+
+// The spread of a number, taken over both bytes.
 fn spread_word(table: &[u16; 256], x: u16) -> u32
     requires { ⌜ IsSpreads (now table) ⌝ }
     ensures { λ r. ⌜ r ≡ spread 16 x ⌝ }
@@ -278,7 +283,7 @@ fn spread_word(table: &[u16; 256], x: u16) -> u32
 }
 
 // The key of a holder and a slot, by a table of spreads.
-fn weave_by(table: &[u16; 256], holder: u16, slot: u16) -> u32
+pub fn weave_by(table: &[u16; 256], holder: u16, slot: u16) -> u32
     requires { ⌜ IsSpreads (now table) ⌝ }
     ensures { λ r. ⌜ r ≡ keyOf holder slot ⌝ }
 {
@@ -291,26 +296,6 @@ pub fn weave(holder: u16, slot: u16) -> u32
 {
     let table: &[u16; 256] = &SPREAD;
     weave_by(table, holder, slot)
-}
-
-// The key of a holder and a slot in one number, the holder in its higher 16 bits.
-fn weave_pair(table: &[u16; 256], pair: u32) -> u32
-    requires { ⌜ IsSpreads (now table) ⌝ }
-    ensures { λ r. ⌜ r ≡ keyOfPacked pair ⌝ }
-{
-    weave_by(table, (pair / 65536) as u16, (pair % 65536) as u16)
-}
-
-// Weaves each number, a holder in its higher 16 bits and a slot in its lower, into their key. The table is taken once for all.
-pub fn weave_all(keys: &mut [u32])
-    ensures { λ _. ⌜ now (keys .exit) ≡ map keyOfPacked (now (keys .entry)) ⌝ }
-{
-    let table: &[u16; 256] = &SPREAD;
-    let mut i = 0;
-    while i < keys.len() {
-        keys[i] = weave_pair(table, keys[i]);
-        i += 1;
-    }
 }
 
 // The bits at places 0, 2, 4 and 6.
