@@ -17,7 +17,7 @@ use Rattle.writer.specs.Writer.{WrittenKeys, yesTo35}
 use Rattle.packing.specs.Run.{Prefixes}
 use Rattle.image_writer.specs.Image.{Planned}
 use Rattle.image_writer.specs.Planning.{usedUp, FirstPass, KeysPlanned, unordered, passed}
-use Rattle.writer.specs.List.{keysIn, fitting, over, wovenOver, FirstPlanned, FirstRoom, FirstWritten, WrittenList, no-lift, too-many, at-most, not-written, written}
+use Rattle.writer.specs.List.{keysIn, fitting, over, wovenOver, PlannedFirst, FillRoom, FilledFirst, WrittenList, no-lift, too-many, at-most, not-written, written}
 use Rattle.writer.proofs.Job as job
 use Rattle.writer.proofs.Weaving.{keys-length, over-take, over-length, over-rest, in-pairs}
 
@@ -49,7 +49,7 @@ module _ (n : ℕ) (ls : List Admission) (places : List ℕ) (few : n ≤ length
   others-kept = ap (drop n) woven-is ∙ ap (λ (k : ℕ). drop k (over (take n (keysIn ls)) places)) (sym count) ∙ over-rest (take n (keysIn ls)) places ∙ ap (λ (k : ℕ). drop k places) count
 
 -- no more is used up than was woven
-pub used-few : (lift : ℕ) (keys : List ℕ) (n : ℕ) (after : List ℕ) (plan : Plan) → length keys ≡ 4096 → FirstPlanned lift keys n after plan → usedUp plan ≤ n
+pub used-few : (lift : ℕ) (keys : List ℕ) (n : ℕ) (after : List ℕ) (plan : Plan) → length keys ≡ 4096 → PlannedFirst lift keys n after plan → usedUp plan ≤ n
 used-few lift keys n after plan all (no-lift t r s) = omega (arith, r .none-used)
 used-few lift keys n after plan all (too-many t h r s) = omega (arith, r .none-used)
 used-few lift keys n after plan all (at-most t h (unordered e r) s) = omega (arith, r .none-used)
@@ -57,7 +57,7 @@ used-few lift keys n after plan all (at-most t h (passed e p) s) = omega (arith,
 
 -- the keys of the list, the places after the plan, and woven again
 module _ (lift : ℕ) (ls : List Admission) (keys after again : List ℕ) (plan : Plan) (used : ℕ)
-    (e : keys ≡ wovenOver (length ls) ls (replicate 4096 0)) (p : FirstPlanned lift keys (length ls) after plan) (same : length after ≡ length keys) (u : used ≡ usedUp plan) (e′ : again ≡ wovenOver used ls after) where
+    (e : keys ≡ wovenOver (length ls) ls (replicate 4096 0)) (p : PlannedFirst lift keys (length ls) after plan) (same : length after ≡ length keys) (u : used ≡ usedUp plan) (e′ : again ≡ wovenOver used ls after) where
   all : length keys ≡ 4096
   all = ap length e ∙ over-length (take (fitting (length ls) 4096) (keysIn ls)) (replicate 4096 0)
 
@@ -80,10 +80,10 @@ module _ (lift : ℕ) (ls : List Admission) (keys after again : List ℕ) (plan 
     passed-again f = whole-again (rw u (f .kept ∙ ap (drop (usedUp plan)) keys-planned))
 
   -- the plan is for the keys, and what is written by it is what is written of the list
-  pub list-room : FirstRoom again (length ls) plan
+  pub list-room : FillRoom again (length ls) plan
   list-room = record { within = λ z. go p z .0; for-keys = λ z. go p z .1 }
     where
-      go : FirstPlanned lift keys (length ls) after plan → plan .refusal ≡ 0 → (length ls ≤ length again) × (Prefixes (take (length ls) again) × Planned (take (length ls) again) plan)
+      go : PlannedFirst lift keys (length ls) after plan → plan .refusal ≡ 0 → (length ls ≤ length again) × (Prefixes (take (length ls) again) × Planned (take (length ls) again) plan)
       go (no-lift t r s) z = absurd (omega (arith, r .refusal-is))
       go (too-many t h r s) z = absurd (omega (arith, r .refusal-is))
       go (at-most t h (unordered o r) s) z = absurd (omega (arith, r .refusal-is))
@@ -93,10 +93,10 @@ module _ (lift : ℕ) (ls : List Admission) (keys after again : List ℕ) (plan 
             rw k (record { few = omega (arith, ap length (keys-planned h), keys-length ls); ordered = o }, f .planned),
           )
 
-  pub list-written : (buffer : List ℕ) (answer : Written) (buffer′ : List ℕ) → FirstWritten again (length ls) plan buffer answer buffer′ → WrittenList lift ls buffer answer buffer′
+  pub list-written : (buffer : List ℕ) (answer : Written) (buffer′ : List ℕ) → FilledFirst again (length ls) plan buffer answer buffer′ → WrittenList lift ls buffer answer buffer′
   list-written buffer answer buffer′ w = in-pairs lift ls buffer answer buffer′ (go p w)
     where
-      go : FirstPlanned lift keys (length ls) after plan → FirstWritten again (length ls) plan buffer answer buffer′ → WrittenKeys (liftQuestion lift) lift (keysIn ls) buffer answer buffer′
+      go : PlannedFirst lift keys (length ls) after plan → FilledFirst again (length ls) plan buffer answer buffer′ → WrittenKeys (liftQuestion lift) lift (keysIn ls) buffer answer buffer′
       go (no-lift t r s) (not-written n is kept) = rw (is, kept, r .refusal-is) (unfold liftQuestion in job.no-35 (liftQuestion lift) lift (keysIn ls) buffer t)
       go (no-lift t r s) (written z w) = absurd (omega (arith, r .refusal-is))
       go (too-many t h r s) (not-written n is kept) = job.asked-35 yesTo35 (liftQuestion lift) lift (keysIn ls) buffer answer buffer′ refl (unfold liftQuestion in t) (rw (is, kept, r .refusal-is) (job.too-many lift (keysIn ls) buffer (omega (arith, keys-length ls))))
@@ -110,7 +110,7 @@ module _ (lift : ℕ) (ls : List Admission) (keys after again : List ℕ) (plan 
 
 -- the first n come back, and the rest is as it was
 pub first-planned : (lift : ℕ) (keys after : List ℕ) (n : ℕ) (plan : Plan) → isLift lift ≡ true → n ≤ length keys → n ≤ 4096 → length after ≡ length (take (n - 0) keys)
-    → KeysPlanned lift (take (n - 0) keys) after plan → FirstPlanned lift keys n (after ++ drop (n - 0) keys) plan
+    → KeysPlanned lift (take (n - 0) keys) after plan → PlannedFirst lift keys n (after ++ drop (n - 0) keys) plan
 first-planned lift keys after n plan t within few same k =
     let z : n - 0 ≡ n = omega arith in
     let l : length after ≡ n = same ∙ length-take-le (n - 0) keys (omega arith) ∙ z in

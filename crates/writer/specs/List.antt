@@ -27,11 +27,12 @@ abbrev pub keysIn : List Admission → List ℕ
 keysIn [] = []
 keysIn (a ∷ list) = keyOf (a .holder) (a .slot) ∷ keysIn list
 
--- n, or none where there are only fewer places
+-- the first of two numbers, or the second
 abbrev pub pickNumber : Bool → ℕ → ℕ → ℕ
 pickNumber true a b = a
 pickNumber false a b = b
 
+-- n, or none where there are only fewer places
 abbrev pub fitting : ℕ → ℕ → ℕ
 fitting n places = pickNumber (ltb places n) 0 n
 
@@ -50,18 +51,23 @@ pub record WrittenList (lift : ℕ) (list : List Admission) (buffer : List ℕ) 
   pub returned : outcomeOf answer ≡ write lift (pairsIn list) buffer
   pub bytes : buffer′ ≡ bufferAfterWrite lift (pairsIn list) buffer
 
+-- the same for the first n of an array of 4,096; a larger n gets a no at 35, or else at 14, and the buffer is as it was
+pub data WrittenFirst (lift : ℕ) (list : List Admission) (n : ℕ) (buffer : List ℕ) (answer : Written) (buffer′ : List ℕ) : Type 0 where
+  in-array : n ≤ 4096 → WrittenList lift (take n list) buffer answer buffer′ → WrittenFirst lift list n buffer answer buffer′
+  past-array : 4096 < n → answer ≡ Refused (pickNumber (isLift lift) 14 35) → buffer′ ≡ buffer → WrittenFirst lift list n buffer answer buffer′
+
 -- the plan of the first n keys, and all of them after it: 35 gets a no, or 14 where n is above 4,096, and the keys are as they were
-pub data FirstPlanned (lift : ℕ) (keys : List ℕ) (n : ℕ) (after : List ℕ) (plan : Plan) : Type 0 where
-  no-lift : isLift lift ≡ false → IsRefusal 35 plan → after ≡ keys → FirstPlanned lift keys n after plan
-  too-many : isLift lift ≡ true → 4096 < n → IsRefusal 14 plan → after ≡ keys → FirstPlanned lift keys n after plan
-  at-most : isLift lift ≡ true → n ≤ 4096 → KeysPlanned lift (take n keys) (take n after) plan → drop n after ≡ drop n keys → FirstPlanned lift keys n after plan
+pub data PlannedFirst (lift : ℕ) (keys : List ℕ) (n : ℕ) (after : List ℕ) (plan : Plan) : Type 0 where
+  no-lift : isLift lift ≡ false → IsRefusal 35 plan → after ≡ keys → PlannedFirst lift keys n after plan
+  too-many : isLift lift ≡ true → 4096 < n → IsRefusal 14 plan → after ≡ keys → PlannedFirst lift keys n after plan
+  at-most : isLift lift ≡ true → n ≤ 4096 → KeysPlanned lift (take n keys) (take n after) plan → drop n after ≡ drop n keys → PlannedFirst lift keys n after plan
 
 -- a plan, and the n keys that it is for, where no question got a no
-pub record FirstRoom (keys : List ℕ) (n : ℕ) (plan : Plan) : Type 0 where
+pub record FillRoom (keys : List ℕ) (n : ℕ) (plan : Plan) : Type 0 where
   pub within : plan .refusal ≡ 0 → n ≤ length keys
   pub for-keys : plan .refusal ≡ 0 → Prefixes (take n keys) × Planned (take n keys) plan
 
 -- the answer and the buffer at exit by a plan for the first n keys
-pub data FirstWritten (keys : List ℕ) (n : ℕ) (plan : Plan) (buffer : List ℕ) (answer : Written) (buffer′ : List ℕ) : Type 0 where
-  not-written : 0 < plan .refusal → answer ≡ Refused (plan .refusal) → buffer′ ≡ buffer → FirstWritten keys n plan buffer answer buffer′
-  written : plan .refusal ≡ 0 → WrittenKeys yesTo35 (plan .lift) (take n keys) buffer answer buffer′ → FirstWritten keys n plan buffer answer buffer′
+pub data FilledFirst (keys : List ℕ) (n : ℕ) (plan : Plan) (buffer : List ℕ) (answer : Written) (buffer′ : List ℕ) : Type 0 where
+  not-written : 0 < plan .refusal → answer ≡ Refused (plan .refusal) → buffer′ ≡ buffer → FilledFirst keys n plan buffer answer buffer′
+  written : plan .refusal ≡ 0 → WrittenKeys yesTo35 (plan .lift) (take n keys) buffer answer buffer′ → FilledFirst keys n plan buffer answer buffer′

@@ -12,7 +12,7 @@ ghost use lib.ListN.{length, take, drop};
 ghost use Rattle.format.specs.Writer.{liftQuestion, eitherQuestion};
 ghost use Rattle.writer.specs.Writer.{WrittenKeys, yesTo35};
 ghost use Rattle.packing.specs.Run.{Prefixes};
-ghost use Rattle.writer.specs.List.{WrittenList};
+ghost use Rattle.writer.specs.List.{WrittenList, WrittenFirst};
 ghost use Rattle.image_writer.specs.Image.{Planned};
 
 // The image's length, or the number of the question that got a no.
@@ -89,7 +89,7 @@ pub fn write_keys(keys: &[u32], lift: u32, out: &mut [u8]) -> Written
 }
 
 // The job: writes the image of the list for a lift, in version 2, into the first bytes of the buffer, and returns its length. It and
-// `write_first` are proved by hand, as list::weave_first is: the borrow checker covers no function over a lent slice of structs.
+// `write_some` are proved by hand, as list::weave_first is: the borrow checker covers no function over a lent slice of structs.
 pub fn write(list: &[Admission], lift: u32, out: &mut [u8]) -> Written
     ensures { λ r. ⌜ WrittenList lift (now (list .entry)) (now (out .entry)) r (now (out .exit)) ⌝ }
 {
@@ -102,10 +102,23 @@ pub fn write(list: &[Admission], lift: u32, out: &mut [u8]) -> Written
     list::fill_first(&mut keys, n, out, plan)
 }
 
-// The same for a caller that owns an array of admissions, of which the first `n` are the list. Such a caller needs no proof by hand.
-pub fn write_first(list: [Admission; 4096], n: usize, lift: u32, out: &mut [u8]) -> Written
+// The same for the first `n` of an array of admissions.
+fn write_some(list: [Admission; 4096], n: usize, lift: u32, out: &mut [u8]) -> Written
     requires { ⌜ n ≤ 4096 ⌝ }
     ensures { λ r. ⌜ WrittenList lift (take n list) (now (out .entry)) r (now (out .exit)) ⌝ }
 {
     write(&list[..n], lift, out)
+}
+
+// The same for a caller that owns the array, and needs no proof by hand: an `n` above 4,096 gets a no at 35 or 14.
+pub fn write_first(list: [Admission; 4096], n: usize, lift: u32, out: &mut [u8]) -> Written
+    ensures { λ r. ⌜ WrittenFirst lift list n (now (out .entry)) r (now (out .exit)) ⌝ }
+{
+    if 4096 < n {
+        if !format::is_lift(lift as usize) {
+            return Written::Refused(35);
+        }
+        return Written::Refused(14);
+    }
+    write_some(list, n, lift, out)
 }

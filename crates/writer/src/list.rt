@@ -8,7 +8,7 @@ ghost use Prim.Native.Nat.{_≤_};
 ghost use lib.ListN.{length};
 ghost use Rattle.format.specs.Key.{keyOf};
 ghost use Rattle.zorder.specs.Table.{IsSpreads};
-ghost use Rattle.writer.specs.List.{fitting, wovenOver, FirstPlanned, FirstRoom, FirstWritten};
+ghost use Rattle.writer.specs.List.{fitting, wovenOver, PlannedFirst, FillRoom, FilledFirst};
 
 // The key of an admission, by a table of spreads.
 fn weave(table: &[u16; 256], a: Admission) -> u32
@@ -43,7 +43,7 @@ pub fn weave_first(list: &[Admission], keys: &mut [u32], n: usize)
 // Questions 35 and 14, then the plan of the first `n` keys.
 pub fn plan_first(keys: &mut [u32], n: usize, lift: u32) -> Plan
     requires { ⌜ length (now keys) ≡ 4096 ⌝ }
-    ensures { λ r. ⌜ FirstPlanned lift (now (keys .entry)) n (now (keys .exit)) r ⌝ }
+    ensures { λ r. ⌜ PlannedFirst lift (now (keys .entry)) n (now (keys .exit)) r ⌝ }
 {
     if !format::is_lift(lift as usize) {
         return image_writer::refused(35);
@@ -56,8 +56,8 @@ pub fn plan_first(keys: &mut [u32], n: usize, lift: u32) -> Plan
 
 // Writes the image of the first `n` keys by their plan.
 pub fn fill_first(keys: &mut [u32], n: usize, out: &mut [u8], plan: Plan) -> Written
-    requires { ⌜ FirstRoom (now keys) n plan ⌝ }
-    ensures { λ r. ⌜ FirstWritten (now (keys .entry)) n plan (now (out .entry)) r (now (out .exit)) ⌝ }
+    requires { ⌜ FillRoom (now keys) n plan ⌝ }
+    ensures { λ r. ⌜ FilledFirst (now (keys .entry)) n plan (now (out .entry)) r (now (out .exit)) ⌝ }
 {
     if 0 < plan.refusal {
         return Written::Refused(plan.refusal);

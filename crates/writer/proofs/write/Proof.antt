@@ -51,7 +51,7 @@ use denote.Triple.Walked.{says, Stays, stay-none, stay-none-slice, gave-slice, w
 use denote.Triple.Clauses.{Lasts, ensured, lasts}
 use denote.Exit.{yes}
 use Rattle.image_writer.specs.Planning.{usedUp}
-use Rattle.writer.specs.List.{wovenOver, FirstPlanned, FirstRoom, FirstWritten, WrittenList}
+use Rattle.writer.specs.List.{wovenOver, PlannedFirst, FillRoom, FilledFirst, WrittenList}
 use Rattle.writer.proofs.Again.{used-few, list-room, list-written}
 use Rattle.writer.proofs.Local as local
 use Rattle.format.specs.declared.Admission.{Admission}
@@ -190,7 +190,7 @@ module _ {M : Type 1} (𝓤 : URA M) (H : Heap 𝓤) (A : Atoms 𝓤) (W : Given
     abbrev Fills : Plan → Val → Fml
     Fills t u = fsep (MutSlice (named 0) (α ∷ []) u32 .own x (lent ∷ [])) (fsep (Num n) (fsep Buf (fsep (P.the-row .own t (u ∷ [])) ftrue)))
 
-    goes-fill : (t : Plan) (u : Val) → FirstRoom zs n t → ent 𝓤 (⋆ 𝓤 H A ((‵ (flft (α ∷ []) fullShare) ⊛ (‵ (flft κ′ p) ⊛ ‵ ftrue)) ∷ ‵ (Fills t u) ∷ [])) (Filled 𝓤 H A mem run .pre (to-fill t u))
+    goes-fill : (t : Plan) (u : Val) → FillRoom zs n t → ent 𝓤 (⋆ 𝓤 H A ((‵ (flft (α ∷ []) fullShare) ⊛ (‵ (flft κ′ p) ⊛ ‵ ftrue)) ∷ ‵ (Fills t u) ∷ [])) (Filled 𝓤 H A mem run .pre (to-fill t u))
     goes-fill t u e = qed W ((‵ (flft (α ∷ []) fullShare) ⊛ (‵ (flft κ′ p) ⊛ ‵ ftrue)) ∷ ‵ (Fills t u) ∷ []) ∵ says ! e $ frame ! $ done !
 
     abbrev Fill-last : Plan → Type 0
@@ -207,7 +207,7 @@ module _ {M : Type 1} (𝓤 : URA M) (H : Heap 𝓤) (A : Atoms 𝓤) (W : Given
   used-said t r = exE 𝓤 _ (λ ws. snd∗ 𝓤 (sem 𝓤 H A (lasts used.ended tt (t, tt) ws)) (fact 𝓤 (r ≡ usedUp t)))
 
   -- no more is used up than is listed
-  listed : (keys after : List ℕ) (t : Plan) (r : ℕ) → length keys ≡ N → FirstPlanned k keys n after t → r ≡ usedUp t → r ≤ n
+  listed : (keys after : List ℕ) (t : Plan) (r : ℕ) → length keys ≡ N → PlannedFirst k keys n after t → r ≡ usedUp t → r ≤ n
   listed keys after t r len e u = subst (λ (m : ℕ). m ≤ n) (sym u) (used-few k keys n after t len e)
 
   module _ (C : Calls 𝓤 H) (Λ : Loops 𝓤 H) (fm : FmC 𝓤 H (W .laws) C) (known-weave : Triple 𝓤 (C #weave) (Weave 𝓤 H A mem run)) (known-plan : Triple 𝓤 (C #plan) (Planned 𝓤 H A mem run)) (known-used : Triple 𝓤 (C #used) (Used 𝓤 H A mem run)) (known-fill : Triple 𝓤 (C #fill) (Filled 𝓤 H A mem run)) where
@@ -252,8 +252,8 @@ module _ {M : Type 1} (𝓤 : URA M) (H : Heap 𝓤) (A : Atoms 𝓤) (W : Given
         -- [what it asks; the lender's part; what list owns; what out owns; list's token; out's token; _18; …]
         calls-at ! fm (Planned 𝓤 H A mem run) known-plan (to-plan α₂ δ₂ l₅ (ws₁ .1 .0)) (and-then ! (load ! (from ! (stop !)) (look ! 18 refl)) (and-then ! (load ! (from ! (stop !)) (look ! 33 refl)) (and-then ! (load ! (from ! (stop !)) (look ! 37 refl)) (no-more !)))) (λ u₂.
         use1 W (later (some (λ (t : Plan). ((‵ (flft (α₂ ∷ []) fullShare) ⊛ ‵ ftrue) ⊛ ‵ (P.the-row .own t (u₂ ∷ []))) ⊛ raw (ensured 𝓤 H A plan.ended (plan.clauses 𝓤 H A mem run) (α₂ ∷ [], tt) (x α₂ δ₂ l₅ (ws₁ .1 .0), (n, (k, tt))) tt t)))) (id⊢ 𝓤 _) $ await ! tt $ pick ! (λ t₂.
-        split ! $ move ! (1 ∷ []) $ use1 W (some (λ (ws : Plan-last α₂ δ₂ l₅ (ws₁ .1 .0)). ‵ (lasts plan.ended (α₂ ∷ [], tt) (x α₂ δ₂ l₅ (ws₁ .1 .0), (n, (k, tt))) ws) ⊛ raw (fact 𝓤 (FirstPlanned k (ws₁ .1 .0) n (ws .0) t₂)))) (id⊢ 𝓤 _) $ pick ! (λ ws₂.
-        split ! $ move ! (1 ∷ []) $ heard ! (FirstPlanned k (ws₁ .1 .0) n (ws₂ .0) t₂) (λ e₂. fsplit ! $ fsplit ! $ move ! (1 ∷ []) $ feqL ! (λ len₂.
+        split ! $ move ! (1 ∷ []) $ use1 W (some (λ (ws : Plan-last α₂ δ₂ l₅ (ws₁ .1 .0)). ‵ (lasts plan.ended (α₂ ∷ [], tt) (x α₂ δ₂ l₅ (ws₁ .1 .0), (n, (k, tt))) ws) ⊛ raw (fact 𝓤 (PlannedFirst k (ws₁ .1 .0) n (ws .0) t₂)))) (id⊢ 𝓤 _) $ pick ! (λ ws₂.
+        split ! $ move ! (1 ∷ []) $ heard ! (PlannedFirst k (ws₁ .1 .0) n (ws₂ .0) t₂) (λ e₂. fsplit ! $ fsplit ! $ move ! (1 ∷ []) $ feqL ! (λ len₂.
         move ! (2 ∷ []) $ split ! $ split ! $ lft-end ! tt $ move ! (1 ∷ 4 ∷ []) $ drop ! $ drop ! $ move ! (0 ∷ 3 ∷ 2 ∷ []) $
         use3 W (later (‵ (Arr (memT u32) (length (ws₁ .1 .0)) .lies (ws₂ .0) l₅ 0))) (slice-back 𝓤 H A W u32 (α₂ ∷ []) δ₂ (ws₂ .0) (length (ws₁ .1 .0)) l₅ 0) $ await ! tt $ fsplit ! $ drop ! $ use1 W (‵ (row u32 fullShare (ws₂ .0) l₅ 0)) (whole-out 𝓤 H A W u32 (ws₂ .0) l₅ 0) $
         move ! (1 ∷ []) $ peeks ! P.the-row (Is P.the-row) (shows 𝓤 H A P.the-row) t₂ (u₂ ∷ []) (λ is₂. land ! (from ! (stop !)) (init ! 30 refl (LL.lawful P.the-type P′.the-laws 𝓤 H A W .typed t₂ _ is₂ .0)) $
@@ -294,8 +294,8 @@ module _ {M : Type 1} (𝓤 : URA M) (H : Heap 𝓤) (A : Atoms 𝓤) (W : Given
         -- [what it asks; the lender's part; what list owns; list's token; _18; …]
         calls-at ! fm (Filled 𝓤 H A mem run) known-fill (to-fill α₅ δ₅ l₅ (ws₄ .1 .0) t₂ u₂) (and-then ! (load ! (from ! (stop !)) (look ! 8 refl)) (and-then ! (load ! (from ! (stop !)) (look ! 31 refl)) (and-then ! (load ! (from ! (stop !)) (look ! 4 refl)) (and-then ! (load ! (from ! (stop !)) (look ! 28 refl)) (no-more !))))) (λ u.
         use1 W (later (some (λ (t : Written). ((‵ (flft (α₅ ∷ []) fullShare) ⊛ (‵ (flft κ′ p) ⊛ ‵ ftrue)) ⊛ ‵ (S.the-row .own t (u ∷ []))) ⊛ raw (ensured 𝓤 H A fill.ended (fill.clauses 𝓤 H A mem run) (α₅ ∷ [], (κ′, tt)) (x α₅ δ₅ l₅ (ws₄ .1 .0), (n, (y, (t₂, tt)))) tt t)))) (id⊢ 𝓤 _) $ await ! tt $ pick ! (λ t.
-        split ! $ move ! (1 ∷ []) $ use1 W (some (λ (ws : Fill-last α₅ δ₅ l₅ (ws₄ .1 .0) t₂). ‵ (lasts fill.ended (α₅ ∷ [], (κ′, tt)) (x α₅ δ₅ l₅ (ws₄ .1 .0), (n, (y, (t₂, tt)))) ws) ⊛ raw (fact 𝓤 (FirstWritten (ws₄ .1 .0) n t₂ ys t (ws .1 .1 .0))))) (id⊢ 𝓤 _) $ pick ! (λ ws₅.
-        split ! $ move ! (1 ∷ []) $ heard ! (FirstWritten (ws₄ .1 .0) n t₂ ys t (ws₅ .1 .1 .0)) (λ e₅. fsplit ! $ fsplit ! $ move ! (1 ∷ []) $ feqL ! (λ len₅. move ! (1 ∷ []) $ fsplit ! $ drop ! $ fsplit ! $ fsplit ! $ move ! (1 ∷ []) $ feqL ! (λ len.
+        split ! $ move ! (1 ∷ []) $ use1 W (some (λ (ws : Fill-last α₅ δ₅ l₅ (ws₄ .1 .0) t₂). ‵ (lasts fill.ended (α₅ ∷ [], (κ′, tt)) (x α₅ δ₅ l₅ (ws₄ .1 .0), (n, (y, (t₂, tt)))) ws) ⊛ raw (fact 𝓤 (FilledFirst (ws₄ .1 .0) n t₂ ys t (ws .1 .1 .0))))) (id⊢ 𝓤 _) $ pick ! (λ ws₅.
+        split ! $ move ! (1 ∷ []) $ heard ! (FilledFirst (ws₄ .1 .0) n t₂ ys t (ws₅ .1 .1 .0)) (λ e₅. fsplit ! $ fsplit ! $ move ! (1 ∷ []) $ feqL ! (λ len₅. move ! (1 ∷ []) $ fsplit ! $ drop ! $ fsplit ! $ fsplit ! $ move ! (1 ∷ []) $ feqL ! (λ len.
         -- [out's last list; what is said of the plan; the places' last list; the tokens and the result; the lender's part; what list owns; list's token; _18; …]
         move ! (3 ∷ []) $ split ! $ split ! $ lft-end ! tt $ move ! (4 ∷ []) $ drop ! $ move ! (0 ∷ 5 ∷ 4 ∷ []) $
         use3 W (later (‵ (Arr (memT u32) (length (ws₄ .1 .0)) .lies (ws₅ .0) l₅ 0))) (slice-back 𝓤 H A W u32 (α₅ ∷ []) δ₅ (ws₅ .0) (length (ws₄ .1 .0)) l₅ 0) $ await ! tt $ fsplit ! $ drop ! $ use1 W (‵ (row u32 fullShare (ws₅ .0) l₅ 0)) (whole-out 𝓤 H A W u32 (ws₅ .0) l₅ 0) $
