@@ -3,7 +3,8 @@
 -- the keys copied to the places to work in, and the image of a list of keys
 pub mod Copied
 pub mod Job
--- the lent list: woven into keys, and packed again; walks over memory
+-- the lent list: woven into keys, and woven again
 pub mod Weaving
 pub mod Again
+-- walks over memory
 pub mod Local
