@@ -16,8 +16,7 @@ use Rattle.format.proofs.Questions.{none-of-yes, yes-of-none}
 use Rattle.format.proofs.Jobs.{of-writable, yes-of-returns}
 use Rattle.format.proofs.Members.{woven-fits}
 use Rattle.format.proofs.Bounds.{page-bound}
-use Rattle.writer.specs.List.{WrittenList, pairsIn}
-use Rattle.writer.specs.Writer.{WrittenKeys, outcomeOf}
+use Rattle.writer.specs.Outcomes.{WrittenKeys, WrittenList, outcomeOf, pairsIn}
 use Rattle.writer.specs.declared.Written.{Written}
 use Rattle.writer.specs.declared.Written.the-variants.{Length, Refused}
 use Rattle.capi.specs.Encoding.{WithinBound, WrittenToC, encoded}

@@ -7,7 +7,7 @@ use lib.IntN.{ℤ, pos, negℤ}
 use Rattle.format.specs.declared.Admission.{Admission}
 use Rattle.format.specs.declared.Rectangle.{Rectangle}
 use Rattle.format.specs.Writer.{write, bufferAfterWrite}
-use Rattle.writer.specs.List.{pairsIn}
+use Rattle.writer.specs.Outcomes.{pairsIn}
 use Rattle.checker.specs.declared.Checked.{Checked}
 use Rattle.checker.specs.declared.Checked.the-variants.{Accepted, Refused}
 use Rattle.writer.specs.declared.Written.{Written}

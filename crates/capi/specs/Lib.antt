@@ -1,1 +1,4 @@
+-- The jobs for C.
+
+-- how an outcome is handed to C
 pub mod Encoding

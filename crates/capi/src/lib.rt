@@ -8,7 +8,7 @@ ghost use Rattle.format.specs.Writer;
 ghost use Rattle.format.specs.Answer;
 ghost use Rattle.format.specs.Scan;
 ghost use Rattle.checker.specs.Outcomes;
-ghost use Rattle.writer.specs.Writer.{outcomeOf};
+ghost use Rattle.writer.specs.Outcomes.{outcomeOf};
 ghost use Rattle.capi.specs.Encoding.{encoded, encodedAdmission, encodedLookup, lookupBuffer, encodedFind, rectangleOf, WithinBound, WithinCount, WrittenToC};
 use checker::Checked;
 use format::Admission;

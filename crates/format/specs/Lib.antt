@@ -1,18 +1,38 @@
+-- The format and the jobs as definitions, in the order to read them in: what an image is, what each job asks and answers, and then what is promised of them.
+
+-- lists, beside the library's
 pub mod Seq
+-- holder and slot woven into a key
 pub mod Key
+-- the levels and nodes of a list of keys
 pub mod Trie
+-- from an out-link to the root that it leads to
 pub mod Band
+-- subtries, pages and their bytes
 pub mod Page
+-- the first 64 bytes
 pub mod Header
+-- what an image says, read from its bytes
 pub mod Image
+-- the numbered questions, and 1 to 13 with 35
 pub mod Question
+-- the image of a list, and the writer's questions and answer
 pub mod Writer
+-- check, lift, lookup, count, listing and finding by rank
 pub mod Answer
+-- the gate's scan
 pub mod Scan
+-- scans one after the other
 pub mod History
+-- what the listing program prints
 pub mod Text
+-- the statement that there is one image per list, version and lift
 pub mod Exact
+-- the statement that T and B are counts over the trie's pages
 pub mod Counters
+-- the statement of how long an image can be
 pub mod Bounds
+-- the statement of what one flipped bit does
 pub mod Flip
+-- the sample plates
 pub mod Plates

@@ -254,6 +254,5 @@ planning-end lift keys₀ keys counts pages n b s none =
       no-refusal = refl;
       lift-is = refl;
       used-few = s .kept .some (omega arith);
-      memory = s .same;
-      kept = s .kept .rest (omega arith);
+      memory = record { free = s .same; kept = s .kept .rest (omega arith) };
     }

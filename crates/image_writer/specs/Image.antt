@@ -7,7 +7,7 @@ use lib.ListN.{length, take, drop}
 use Rattle.format.specs.Seq.{total}
 use Rattle.format.specs.Writer.{bandsOf, bandBytes, bandCounts, pagesOf}
 use Rattle.packing.specs.Run.{Prefixes, bandAbove, rootsAbove}
-use Rattle.page_writer.specs.Memory.{Free}
+use Rattle.packing.specs.Memory.{Free}
 use Rattle.image_writer.specs.declared.Plan.{Plan}
 
 -- the page count and the root count of each band, and the pages of all

@@ -11,7 +11,7 @@ use Rattle.format.specs.Trie.{parents, nodesOver, onBits, bitOf}
 use Rattle.format.specs.Page.{nodeBytes, pairsOf, nodeCount}
 use Rattle.format.specs.Writer.{ascending, pageBytes, rootsIn}
 use Rattle.packing.specs.Run.{bandAbove, rootsAbove}
-use Rattle.page_writer.specs.Memory.{FreeFrom}
+use Rattle.packing.specs.Memory.{FreeFrom}
 use Rattle.page_writer.specs.declared.Head.{Head}
 use Rattle.page_writer.specs.declared.Level.{Level}
 

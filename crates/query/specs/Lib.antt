@@ -1,2 +1,6 @@
-pub mod Way
+-- Lookup, count, listing and finding by rank: their answers in format's terms, and what their inner functions find.
+
+-- the answers in format's terms
 pub mod Outcomes
+-- the way of a key down the bands
+pub mod Way

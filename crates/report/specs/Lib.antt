@@ -1,5 +1,4 @@
 -- The listing program's output: what is returned and what the buffer holds, then the parts that it is written in.
--- Assumes nothing.
 
 -- the answer in format's terms
 pub mod Outcomes

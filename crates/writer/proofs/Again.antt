@@ -6,18 +6,19 @@ use mathlib.Core.List.{List, [], _∷_, _++_}
 use Prim.Native.Nat.{ℕ, zero, suc, _-_, _≤_}
 use native.Mathlib.Omega.{arith}
 use borrow.Author.Tests.{le-ltb}
-use lib.ListN.{length, take, drop, replicate, take-append-drop}
+use lib.ListN.{length, take, drop, replicate, length-append, length-drop, take-append-drop}
 use lib.Seq.{take-all, take-at, take-take, drop-at, length-take-le}
 use Rattle.format.specs.Question.{isLift}
 use Rattle.format.specs.Writer.{liftQuestion}
 use Rattle.format.specs.declared.Admission.{Admission}
 use Rattle.image_writer.specs.declared.Plan.{Plan}
 use Rattle.writer.specs.declared.Written.{Written}
-use Rattle.writer.specs.Writer.{WrittenKeys, yesTo35}
+use Rattle.writer.specs.Outcomes.{WrittenKeys, WrittenList, yesTo35}
 use Rattle.packing.specs.Run.{Prefixes}
+use Rattle.packing.specs.Memory.{FreeUpTo}
 use Rattle.image_writer.specs.Image.{Planned}
 use Rattle.image_writer.specs.Planning.{usedUp, FirstPass, KeysPlanned, unordered, passed}
-use Rattle.writer.specs.List.{keysIn, fitting, over, wovenOver, PlannedFirst, FillRoom, FilledFirst, WrittenList, no-lift, too-many, at-most, not-written, written}
+use Rattle.writer.specs.List.{keysIn, fitting, over, wovenOver, PlannedFirst, FillRoom, FilledFirst, no-lift, too-many, at-most, not-written, written}
 use Rattle.writer.proofs.Job as job
 use Rattle.writer.proofs.Weaving.{keys-length, over-take, over-length, over-rest, in-pairs}
 
@@ -77,7 +78,7 @@ module _ (lift : ℕ) (ls : List Admission) (keys after again : List ℕ) (plan 
         ∙ take-append-drop used (keysIn ls)
 
     passed-again : FirstPass lift (take (length ls) keys) (take (length ls) after) plan → take (length ls) again ≡ keysIn ls
-    passed-again f = whole-again (rw u (f .kept ∙ ap (drop (usedUp plan)) keys-planned))
+    passed-again f = whole-again (rw u (f .memory .kept ∙ ap (drop (usedUp plan)) keys-planned))
 
   -- the plan is for the keys, and what is written by it is what is written of the list
   pub list-room : FillRoom again (length ls) plan
@@ -93,22 +94,28 @@ module _ (lift : ℕ) (ls : List Admission) (keys after again : List ℕ) (plan 
             rw k (record { few = omega (arith, ap length (keys-planned h), keys-length ls); ordered = o }, f .planned),
           )
 
-  pub list-written : (buffer : List ℕ) (answer : Written) (buffer′ : List ℕ) → FilledFirst again (length ls) plan buffer answer buffer′ → WrittenList lift ls buffer answer buffer′
-  list-written buffer answer buffer′ w = in-pairs lift ls buffer answer buffer′ (go p w)
+  pub list-written : (buffer : List ℕ) (answer : Written) (again′ buffer′ : List ℕ) → FilledFirst again (length ls) plan buffer answer again′ buffer′ → WrittenList lift ls buffer answer buffer′
+  list-written buffer answer again′ buffer′ w = in-pairs lift ls buffer answer buffer′ (go p w)
     where
-      go : PlannedFirst lift keys (length ls) after plan → FilledFirst again (length ls) plan buffer answer buffer′ → WrittenKeys (liftQuestion lift) lift (keysIn ls) buffer answer buffer′
-      go (no-lift t r s) (not-written n is kept) = rw (is, kept, r .refusal-is) (unfold liftQuestion in job.no-35 (liftQuestion lift) lift (keysIn ls) buffer t)
-      go (no-lift t r s) (written z w) = absurd (omega (arith, r .refusal-is))
-      go (too-many t h r s) (not-written n is kept) = job.asked-35 yesTo35 (liftQuestion lift) lift (keysIn ls) buffer answer buffer′ refl (unfold liftQuestion in t) (rw (is, kept, r .refusal-is) (job.too-many lift (keysIn ls) buffer (omega (arith, keys-length ls))))
-      go (too-many t h r s) (written z w) = absurd (omega (arith, r .refusal-is))
-      go (at-most t h k s) (not-written n is kept) =
+      go : PlannedFirst lift keys (length ls) after plan → FilledFirst again (length ls) plan buffer answer again′ buffer′ → WrittenKeys (liftQuestion lift) lift (keysIn ls) buffer answer buffer′
+      go (no-lift t r s) (not-written n is _ kept) = rw (is, kept, r .refusal-is) (unfold liftQuestion in job.no-35 (liftQuestion lift) lift (keysIn ls) buffer t)
+      go (no-lift t r s) (written z w _) = absurd (omega (arith, r .refusal-is))
+      go (too-many t h r s) (not-written n is _ kept) = job.asked-35 yesTo35 (liftQuestion lift) lift (keysIn ls) buffer answer buffer′ refl (unfold liftQuestion in t) (rw (is, kept, r .refusal-is) (job.too-many lift (keysIn ls) buffer (omega (arith, keys-length ls))))
+      go (too-many t h r s) (written z w _) = absurd (omega (arith, r .refusal-is))
+      go (at-most t h k s) (not-written n is _ kept) =
           job.asked-35 yesTo35 (liftQuestion lift) lift (keysIn ls) buffer answer buffer′ refl (unfold liftQuestion in t) (rw (is, kept) (job.plan-refused lift (keysIn ls) (take (length ls) after) buffer plan (omega (arith, keys-length ls)) (rw (keys-planned h) at k) n))
-      go (at-most t h (unordered o r) s) (written z w) = absurd (omega (arith, r .refusal-is))
-      go (at-most t h (passed o f) s) (written z w) = job.asked-35 yesTo35 (liftQuestion lift) lift (keysIn ls) buffer answer buffer′ refl (unfold liftQuestion in t) (rw (passed-again h f, f .lift-is) at w)
+      go (at-most t h (unordered o r) s) (written z w _) = absurd (omega (arith, r .refusal-is))
+      go (at-most t h (passed o f) s) (written z w _) = job.asked-35 yesTo35 (liftQuestion lift) lift (keysIn ls) buffer answer buffer′ refl (unfold liftQuestion in t) (rw (passed-again h f, f .lift-is) at w)
 
 -- ---- the part of an array that is planned
 
 -- the first n come back, and the rest is as it was
+pub part-back : (keys after : List ℕ) (n : ℕ) → n ≤ length keys → length after ≡ length (take (n - 0) keys) → FreeUpTo n keys (after ++ drop (n - 0) keys)
+part-back keys after n within same =
+    let z : n - 0 ≡ n = omega arith in
+    let l : length after ≡ n = same ∙ length-take-le (n - 0) keys (omega arith) ∙ z in
+    record { free = omega (arith, l, length-append after (drop (n - 0) keys), length-drop (n - 0) keys); kept = drop-at after (drop (n - 0) keys) n l ∙ ap (λ (m : ℕ). drop m keys) z }
+
 pub first-planned : (lift : ℕ) (keys after : List ℕ) (n : ℕ) (plan : Plan) → isLift lift ≡ true → n ≤ length keys → n ≤ 4096 → length after ≡ length (take (n - 0) keys)
     → KeysPlanned lift (take (n - 0) keys) after plan → PlannedFirst lift keys n (after ++ drop (n - 0) keys) plan
 first-planned lift keys after n plan t within few same k =
@@ -116,4 +123,4 @@ first-planned lift keys after n plan t within few same k =
     let l : length after ≡ n = same ∙ length-take-le (n - 0) keys (omega arith) ∙ z in
     at-most t few
     (rw (take-at after (drop (n - 0) keys) n l) (rw z at k))
-    (drop-at after (drop (n - 0) keys) n l ∙ ap (λ (m : ℕ). drop m keys) z)
+    (part-back keys after n within same .kept)

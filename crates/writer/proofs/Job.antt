@@ -20,7 +20,7 @@ use Rattle.format.proofs.Exact.{write-is}
 use Rattle.writer.specs.declared.Written.{Written}
 use Rattle.writer.specs.declared.Written.the-variants.{Length, Refused}
 use Rattle.image_writer.specs.declared.Plan.{Plan}
-use Rattle.writer.specs.Writer.{WrittenKeys, yesTo35}
+use Rattle.writer.specs.Outcomes.{WrittenKeys, yesTo35}
 use Rattle.packing.specs.Run.{Prefixes}
 use Rattle.image_writer.specs.Image.{countsOf, pagesIn, pagesFrom, bytesOfBand, bytesOfBands, Planned, ImageRoom}
 use Rattle.image_writer.specs.Planning.{usedUp, FirstPass, KeysPlanned, unordered, passed}
@@ -163,4 +163,4 @@ pub used-loaded : (lift : ℕ) (keys after m : List ℕ) (plan : Plan) (used : �
 used-loaded lift keys after m plan used u p e =
     let z : used - 0 ≡ usedUp plan = omega (arith, u) in
     let l : length (take (used - 0) keys) ≡ usedUp plan = ap (λ (n : ℕ). length (take n keys)) z ∙ length-take-le (usedUp plan) keys (p .used-few) in
-    e ∙ ap₂ (λ (n k : ℕ). take n keys ++ drop k after) z l ∙ ap (take (usedUp plan) keys ++_) (p .kept) ∙ take-append-drop (usedUp plan) keys
+    e ∙ ap₂ (λ (n k : ℕ). take n keys ++ drop k after) z l ∙ ap (take (usedUp plan) keys ++_) (p .memory .kept) ∙ take-append-drop (usedUp plan) keys

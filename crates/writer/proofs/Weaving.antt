@@ -12,8 +12,8 @@ use Rattle.format.specs.Key.{keyOf, woven}
 use Rattle.format.specs.Writer.{bufferAfterWrite, bufferAfterWriteKeys, liftQuestion, write, writeKeys}
 use Rattle.format.specs.declared.Admission.{Admission}
 use Rattle.writer.specs.declared.Written.{Written}
-use Rattle.writer.specs.Writer.{WrittenKeys}
-use Rattle.writer.specs.List.{pairsIn, keysIn, pickNumber, fitting, over, WrittenList}
+use Rattle.writer.specs.Outcomes.{WrittenKeys, WrittenList, pairsIn}
+use Rattle.writer.specs.List.{keysIn, pickNumber, fitting, over}
 
 -- the admission at place i, or (0, 0) past the end
 abbrev pub none : Admission

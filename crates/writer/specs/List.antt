@@ -1,26 +1,22 @@
--- The lent list of admissions: its pairs of holder and slot, its keys, and the places that these are woven into.
+-- The lent list of admissions: its keys, the places that these are woven into, and what is planned and written of them.
 -- Assumes nothing.
 use mathlib.Core.Path.{_≡_}
 use mathlib.Core.Bool.{Bool, true, false}
-use mathlib.Core.List.{List, [], _∷_, map}
+use mathlib.Core.List.{List, [], _∷_}
 use Prim.Native.Nat.{ℕ, _≤_, _<_}
 use lib.Dec.{ltb}
 use lib.ListN.{length, take, drop}
 use Rattle.format.specs.Key.{keyOf}
 use Rattle.format.specs.Question.{isLift}
-use Rattle.format.specs.Writer.{write, bufferAfterWrite}
 use Rattle.format.specs.declared.Admission.{Admission}
 use Rattle.writer.specs.declared.Written.{Written}
-use Rattle.writer.specs.Writer.{outcomeOf, WrittenKeys, yesTo35}
+use Rattle.writer.specs.Outcomes.{WrittenKeys, yesTo35}
 use Rattle.packing.specs.Run.{Prefixes}
+use Rattle.packing.specs.Memory.{FreeUpTo}
 use Rattle.image_writer.specs.Image.{Planned}
 use Rattle.image_writer.specs.Planning.{IsRefusal, KeysPlanned}
 use Rattle.image_writer.specs.declared.Plan.{Plan}
 use Rattle.writer.specs.declared.Written.the-variants.{Refused}
-
--- the pairs of holder and slot that format's definitions speak of
-abbrev pub pairsIn : List Admission → List (ℕ × ℕ)
-pairsIn list = map {B = ℕ × ℕ} (λ (a : Admission). (a .holder, a .slot)) list
 
 -- the keys of a list
 abbrev pub keysIn : List Admission → List ℕ
@@ -46,16 +42,6 @@ over (k ∷ keys) (x ∷ places) = k ∷ over keys places
 abbrev pub wovenOver : ℕ → List Admission → List ℕ → List ℕ
 wovenOver n list places = over (take (fitting n (length places)) (keysIn list)) places
 
--- the writer's answer and the buffer at exit, for a lift, the lent list and the buffer as it was lent
-pub record WrittenList (lift : ℕ) (list : List Admission) (buffer : List ℕ) (answer : Written) (buffer′ : List ℕ) : Type 0 where
-  pub returned : outcomeOf answer ≡ write lift (pairsIn list) buffer
-  pub bytes : buffer′ ≡ bufferAfterWrite lift (pairsIn list) buffer
-
--- the same for the first n of an array of 4,096; a larger n gets a no at 35, or else at 14, and the buffer is as it was
-pub data WrittenFirst (lift : ℕ) (list : List Admission) (n : ℕ) (buffer : List ℕ) (answer : Written) (buffer′ : List ℕ) : Type 0 where
-  in-array : n ≤ 4096 → WrittenList lift (take n list) buffer answer buffer′ → WrittenFirst lift list n buffer answer buffer′
-  past-array : 4096 < n → answer ≡ Refused (pickNumber (isLift lift) 14 35) → buffer′ ≡ buffer → WrittenFirst lift list n buffer answer buffer′
-
 -- the plan of the first n keys, and all of them after it: 35 gets a no, or 14 where n is above 4,096, and the keys are as they were
 pub data PlannedFirst (lift : ℕ) (keys : List ℕ) (n : ℕ) (after : List ℕ) (plan : Plan) : Type 0 where
   no-lift : isLift lift ≡ false → IsRefusal 35 plan → after ≡ keys → PlannedFirst lift keys n after plan
@@ -67,7 +53,7 @@ pub record FillRoom (keys : List ℕ) (n : ℕ) (plan : Plan) : Type 0 where
   pub within : plan .refusal ≡ 0 → n ≤ length keys
   pub for-keys : plan .refusal ≡ 0 → Prefixes (take n keys) × Planned (take n keys) plan
 
--- the answer and the buffer at exit by a plan for the first n keys
-pub data FilledFirst (keys : List ℕ) (n : ℕ) (plan : Plan) (buffer : List ℕ) (answer : Written) (buffer′ : List ℕ) : Type 0 where
-  not-written : 0 < plan .refusal → answer ≡ Refused (plan .refusal) → buffer′ ≡ buffer → FilledFirst keys n plan buffer answer buffer′
-  written : plan .refusal ≡ 0 → WrittenKeys yesTo35 (plan .lift) (take n keys) buffer answer buffer′ → FilledFirst keys n plan buffer answer buffer′
+-- the answer, the keys and the buffer at exit by a plan for the first n keys: the places of these are free, the others are as they were
+pub data FilledFirst (keys : List ℕ) (n : ℕ) (plan : Plan) (buffer : List ℕ) (answer : Written) (keys′ buffer′ : List ℕ) : Type 0 where
+  not-written : 0 < plan .refusal → answer ≡ Refused (plan .refusal) → keys′ ≡ keys → buffer′ ≡ buffer → FilledFirst keys n plan buffer answer keys′ buffer′
+  written : plan .refusal ≡ 0 → WrittenKeys yesTo35 (plan .lift) (take n keys) buffer answer buffer′ → FreeUpTo n keys keys′ → FilledFirst keys n plan buffer answer keys′ buffer′

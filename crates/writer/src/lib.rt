@@ -10,9 +10,9 @@ ghost use mathlib.Core.List.{_++_};
 ghost use Prim.Native.Nat.{_≤_};
 ghost use lib.ListN.{length, take, drop};
 ghost use Rattle.format.specs.Writer.{liftQuestion, eitherQuestion};
-ghost use Rattle.writer.specs.Writer.{WrittenKeys, yesTo35};
+ghost use Rattle.writer.specs.Outcomes.{WrittenKeys, WrittenList, WrittenFirst, yesTo35};
 ghost use Rattle.packing.specs.Run.{Prefixes};
-ghost use Rattle.writer.specs.List.{WrittenList, WrittenFirst};
+ghost use Rattle.packing.specs.Memory.{Free};
 ghost use Rattle.image_writer.specs.Image.{Planned};
 
 // The image's length, or the number of the question that got a no.
@@ -36,7 +36,7 @@ fn load(places: &mut [u32], keys: &[u32])
 // Question 17, and the image of the keys that a plan is for.
 fn fill_image(keys: &mut [u32], out: &mut [u8], plan: Plan) -> Written
     requires { ⌜ Prefixes (now keys) × Planned (now keys) plan ⌝ }
-    ensures { λ r. ⌜ WrittenKeys yesTo35 (plan .lift) (now (keys .entry)) (now (out .entry)) r (now (out .exit)) ⌝ }
+    ensures { λ r. ⌜ (WrittenKeys yesTo35 (plan .lift) (now (keys .entry)) (now (out .entry)) r (now (out .exit))) × (Free (now (keys .entry)) (now (keys .exit))) ⌝ }
 {
     let length = 64 + 64 * plan.pages;
     if out.len() < length {
@@ -51,7 +51,7 @@ fn fill_image(keys: &mut [u32], out: &mut [u8], plan: Plan) -> Written
 // Writes the image of the keys for a lift, with as many places to work in.
 fn write_over(places: &mut [u32], keys: &[u32], lift: u16, out: &mut [u8]) -> Written
     requires { ⌜ (length (now places) ≡ length (now keys)) × (length (now keys) ≤ 4096) ⌝ }
-    ensures { λ r. ⌜ WrittenKeys yesTo35 lift (now (keys .entry)) (now (out .entry)) r (now (out .exit)) ⌝ }
+    ensures { λ r. ⌜ (WrittenKeys yesTo35 lift (now (keys .entry)) (now (out .entry)) r (now (out .exit))) × (Free (now (places .entry)) (now (places .exit))) ⌝ }
 {
     load(places, keys);
     let plan = image_writer::plan_keys(places, lift);

@@ -57,7 +57,7 @@ pub fn plan_first(keys: &mut [u32], n: usize, lift: u32) -> Plan
 // Writes the image of the first `n` keys by their plan.
 pub fn fill_first(keys: &mut [u32], n: usize, out: &mut [u8], plan: Plan) -> Written
     requires { ⌜ FillRoom (now keys) n plan ⌝ }
-    ensures { λ r. ⌜ FilledFirst (now (keys .entry)) n plan (now (out .entry)) r (now (out .exit)) ⌝ }
+    ensures { λ r. ⌜ FilledFirst (now (keys .entry)) n plan (now (out .entry)) r (now (keys .exit)) (now (out .exit)) ⌝ }
 {
     if 0 < plan.refusal {
         return Written::Refused(plan.refusal);

@@ -1,1 +1,4 @@
+-- Keys by a table of spreads.
+
+-- the rule of the table
 pub mod Table

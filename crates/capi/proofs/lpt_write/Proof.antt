@@ -43,8 +43,7 @@ use Rattle.capi.specs.Encoding.{WrittenToC, WithinBound, encoded}
 use Rattle.capi.proofs.Length.{to-c, within}
 use Rattle.format.specs.declared.Admission.{Admission}
 use Rattle.format.proofs.Admission as T
-use Rattle.writer.specs.List.{WrittenList}
-use Rattle.writer.specs.Writer.{outcomeOf}
+use Rattle.writer.specs.Outcomes.{WrittenList, outcomeOf}
 use Rattle.writer.specs.declared.Written.{Written}
 use Rattle.writer.proofs.Written as S
 use Rattle.writer.proofs.Written.Laws as S′

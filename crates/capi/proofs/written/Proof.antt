@@ -3,7 +3,7 @@ use mathlib.Core.Path.{sym, ap, subst, _∙_}
 use Prim.Native.Nat.{_≤_}
 use native.Mathlib.Omega.{arith}
 use Rattle.capi.proofs.Signed.{back-neg, back-pos}
-use Rattle.writer.specs.Writer.{outcomeOf}
+use Rattle.writer.specs.Outcomes.{outcomeOf}
 use Rattle.writer.specs.declared.Written.{Written}
 use Rattle.capi.specs.Encoding.{WithinBound, encoded}
 use borrow.Author.Needs.{needs}

@@ -51,7 +51,8 @@ use denote.Triple.Walked.{says, Stays, stay-none, stay-none-slice, gave-slice, w
 use denote.Triple.Clauses.{Lasts, ensured, lasts}
 use denote.Exit.{yes}
 use Rattle.image_writer.specs.Planning.{usedUp}
-use Rattle.writer.specs.List.{wovenOver, PlannedFirst, FillRoom, FilledFirst, WrittenList}
+use Rattle.writer.specs.Outcomes.{WrittenList}
+use Rattle.writer.specs.List.{wovenOver, PlannedFirst, FillRoom, FilledFirst}
 use Rattle.writer.proofs.Again.{used-few, list-room, list-written}
 use Rattle.writer.proofs.Local as local
 use Rattle.format.specs.declared.Admission.{Admission}
@@ -294,8 +295,8 @@ module _ {M : Type 1} (𝓤 : URA M) (H : Heap 𝓤) (A : Atoms 𝓤) (W : Given
         -- [what it asks; the lender's part; what list owns; list's token; _18; …]
         calls-at ! fm (Filled 𝓤 H A mem run) known-fill (to-fill α₅ δ₅ l₅ (ws₄ .1 .0) t₂ u₂) (and-then ! (load ! (from ! (stop !)) (look ! 8 refl)) (and-then ! (load ! (from ! (stop !)) (look ! 31 refl)) (and-then ! (load ! (from ! (stop !)) (look ! 4 refl)) (and-then ! (load ! (from ! (stop !)) (look ! 28 refl)) (no-more !))))) (λ u.
         use1 W (later (some (λ (t : Written). ((‵ (flft (α₅ ∷ []) fullShare) ⊛ (‵ (flft κ′ p) ⊛ ‵ ftrue)) ⊛ ‵ (S.the-row .own t (u ∷ []))) ⊛ raw (ensured 𝓤 H A fill.ended (fill.clauses 𝓤 H A mem run) (α₅ ∷ [], (κ′, tt)) (x α₅ δ₅ l₅ (ws₄ .1 .0), (n, (y, (t₂, tt)))) tt t)))) (id⊢ 𝓤 _) $ await ! tt $ pick ! (λ t.
-        split ! $ move ! (1 ∷ []) $ use1 W (some (λ (ws : Fill-last α₅ δ₅ l₅ (ws₄ .1 .0) t₂). ‵ (lasts fill.ended (α₅ ∷ [], (κ′, tt)) (x α₅ δ₅ l₅ (ws₄ .1 .0), (n, (y, (t₂, tt)))) ws) ⊛ raw (fact 𝓤 (FilledFirst (ws₄ .1 .0) n t₂ ys t (ws .1 .1 .0))))) (id⊢ 𝓤 _) $ pick ! (λ ws₅.
-        split ! $ move ! (1 ∷ []) $ heard ! (FilledFirst (ws₄ .1 .0) n t₂ ys t (ws₅ .1 .1 .0)) (λ e₅. fsplit ! $ fsplit ! $ move ! (1 ∷ []) $ feqL ! (λ len₅. move ! (1 ∷ []) $ fsplit ! $ drop ! $ fsplit ! $ fsplit ! $ move ! (1 ∷ []) $ feqL ! (λ len.
+        split ! $ move ! (1 ∷ []) $ use1 W (some (λ (ws : Fill-last α₅ δ₅ l₅ (ws₄ .1 .0) t₂). ‵ (lasts fill.ended (α₅ ∷ [], (κ′, tt)) (x α₅ δ₅ l₅ (ws₄ .1 .0), (n, (y, (t₂, tt)))) ws) ⊛ raw (fact 𝓤 (FilledFirst (ws₄ .1 .0) n t₂ ys t (ws .0) (ws .1 .1 .0))))) (id⊢ 𝓤 _) $ pick ! (λ ws₅.
+        split ! $ move ! (1 ∷ []) $ heard ! (FilledFirst (ws₄ .1 .0) n t₂ ys t (ws₅ .0) (ws₅ .1 .1 .0)) (λ e₅. fsplit ! $ fsplit ! $ move ! (1 ∷ []) $ feqL ! (λ len₅. move ! (1 ∷ []) $ fsplit ! $ drop ! $ fsplit ! $ fsplit ! $ move ! (1 ∷ []) $ feqL ! (λ len.
         -- [out's last list; what is said of the plan; the places' last list; the tokens and the result; the lender's part; what list owns; list's token; _18; …]
         move ! (3 ∷ []) $ split ! $ split ! $ lft-end ! tt $ move ! (4 ∷ []) $ drop ! $ move ! (0 ∷ 5 ∷ 4 ∷ []) $
         use3 W (later (‵ (Arr (memT u32) (length (ws₄ .1 .0)) .lies (ws₅ .0) l₅ 0))) (slice-back 𝓤 H A W u32 (α₅ ∷ []) δ₅ (ws₅ .0) (length (ws₄ .1 .0)) l₅ 0) $ await ! tt $ fsplit ! $ drop ! $ use1 W (‵ (row u32 fullShare (ws₅ .0) l₅ 0)) (whole-out 𝓤 H A W u32 (ws₅ .0) l₅ 0) $
@@ -306,7 +307,7 @@ module _ {M : Type 1} (𝓤 : URA M) (H : Heap 𝓤) (A : Atoms 𝓤) (W : Given
         peeks ! S.the-row (Is S.the-row) (shows 𝓤 H A S.the-row) t (u ∷ []) (λ is. land ! (from ! (stop !)) (init ! 41 refl (EL.lawful S.the-type S′.the-laws 𝓤 H A W tt .typed t _ is .0)) $
         returns ! (look ! 41 refl) $ forget ! 1 refl $ forget ! 6 refl $ forget ! 8 refl $ forget ! 10 refl $ forget ! 12 refl $ forget ! 14 refl $ forget ! 16 refl $ forget ! 18 refl $ forget ! 20 refl $ forget ! 22 refl $ forget ! 24 refl $ forget ! 28 refl $ forget ! 30 refl $ forget ! 33 refl $ forget ! 35 refl $ forget ! 37 refl $ forget ! 39 refl $ forget ! 41 refl $
         move ! (41 ∷ 42 ∷ []) $ free1 ! $ move ! (39 ∷ 40 ∷ []) $ free1 ! $ move ! (37 ∷ 38 ∷ []) $ free1 ! $ move ! (35 ∷ 36 ∷ []) $ free1 ! $ move ! (33 ∷ 34 ∷ []) $ free1 ! $ move ! (1 ∷ 32 ∷ []) $ free1 ! $ move ! (29 ∷ 30 ∷ []) $ free1 ! $ move ! (27 ∷ 28 ∷ []) $ free1 ! $ move ! (25 ∷ 26 ∷ []) $ free1 ! $ move ! (23 ∷ 24 ∷ []) $ free1 ! $ move ! (21 ∷ 22 ∷ []) $ free1 ! $ move ! (19 ∷ 20 ∷ []) $ free1 ! $ move ! (17 ∷ 18 ∷ []) $ free1 ! $ move ! (15 ∷ 16 ∷ []) $ free1 ! $ move ! (13 ∷ 14 ∷ []) $ free1 ! $ move ! (11 ∷ 12 ∷ []) $ free1 ! $ move ! (9 ∷ 10 ∷ []) $ free1 ! $ move ! (7 ∷ 8 ∷ []) $ free1 ! $ move ! (5 ∷ 6 ∷ []) $ free1 ! $ free0 ! $
-        move ! (0 ∷ 1 ∷ 2 ∷ 4 ∷ 3 ∷ []) $ by ! (exits t u (ws₅ .1 .1 .0) (list-written k (now s) (ws₁ .1 .0) (ws₂ .0) (ws₄ .1 .0) t₂ m e₁ e₂ len₂ e₃ e₄ ys t (ws₅ .1 .1 .0) e₅) len))))))))))))))))))))))))))))))))))))))))))))))))))))))))))))
+        move ! (0 ∷ 1 ∷ 2 ∷ 4 ∷ 3 ∷ []) $ by ! (exits t u (ws₅ .1 .1 .0) (list-written k (now s) (ws₁ .1 .0) (ws₂ .0) (ws₄ .1 .0) t₂ m e₁ e₂ len₂ e₃ e₄ ys t (ws₅ .0) (ws₅ .1 .1 .0) e₅) len))))))))))))))))))))))))))))))))))))))))))))))))))))))))))))
 
 module _ {M : Type 1} (𝓤 : URA M) (H : Heap 𝓤) (A : Atoms 𝓤) (W : Given 𝓤 H A) (mem : Memory → SProp 𝓤) (run : Routine → Fun 𝓤) where
   walks : (C : Calls 𝓤 H) (Λ : Loops 𝓤 H) → FmC 𝓤 H (W .laws) C → Triple 𝓤 (C #weave) (Weave 𝓤 H A mem run) → Triple 𝓤 (C #plan) (Planned 𝓤 H A mem run) → Triple 𝓤 (C #used) (Used 𝓤 H A mem run) → Triple 𝓤 (C #fill) (Filled 𝓤 H A mem run) → Walks 𝓤 H A f.ended stayed (WpFn 𝓤 H C Λ code.function) (f.clauses 𝓤 H A mem run)

@@ -4,7 +4,7 @@ use native.Mathlib.Omega.{arith}
 use borrow.Author.Tests.{le-leb, lt-leb}
 use borrow.Author.Needs.{needs}
 use Rattle.format.specs.Writer.{eitherQuestion}
-use Rattle.writer.specs.Writer.{yesTo35}
+use Rattle.writer.specs.Outcomes.{yesTo35}
 use Rattle.writer.proofs.Job.{no-35, asked-35, too-many}
 use Rattle.writer.proofs.write_either.Statement.{statement}
 use Rattle.writer.proofs.write_either.Tie as tie
@@ -22,7 +22,7 @@ cast-write-over c = omega (arith, c .before .before .if1 .left)
 
 returns-3 : tie.Need-returns-3
 unfolding eitherQuestion
-returns-3 c = asked-35 yesTo35 _ _ _ _ _ _ refl (le-leb _ 999 (c .before .before .before .before .before .before .before .if1 .left)) (c .before .before .before .write-over .ensures)
+returns-3 c = asked-35 yesTo35 _ _ _ _ _ _ refl (le-leb _ 999 (c .before .before .before .before .before .before .before .if1 .left)) (c .before .before .before .write-over .ensures .0)
 
 pub write-either-spec : {M : Type 1} → statement M
 write-either-spec =

@@ -48,7 +48,7 @@ use denote.Triple.Table.{entered, cited}
 use denote.Triple.Walked.{says, needs, Stays, stay-none, gave-slice, walkOf, goes-none, goes-gave-slice, Walks, ends-at, walked, walk-meets}
 use denote.Triple.Clauses.{Lasts, ensured, lasts}
 use denote.Exit.{yes}
-use Rattle.writer.specs.List.{WrittenList}
+use Rattle.writer.specs.Outcomes.{WrittenList}
 use Rattle.format.specs.declared.Admission.{Admission}
 use Rattle.writer.proofs.Local as local
 use Rattle.writer.specs.declared.Written.{Written}
