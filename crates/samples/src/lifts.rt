@@ -11,10 +11,10 @@ use crate::judge::accepts;
 use crate::judge::refuses;
 use crate::judge::refuses_part;
 use crate::judge::scan_refusal;
+use crate::questions::are_not_written;
 use crate::say::Tally;
 use crate::say::case;
 use checker::Checked;
-use format::Admission;
 use testing::starts_with_bytes;
 
 // The image of key 0 in version 2, with these bytes in place of the lift's, and one that must be zero.
@@ -59,14 +59,6 @@ fn is_refused(n: usize, lift: u32) -> bool {
     refusal == 35 && all_bytes(&out, 0xee)
 }
 
-// The same for two admissions.
-fn are_refused(lift: u32) -> bool {
-    let list = [Admission { holder: 0, slot: 0 }; 4096];
-    let mut out = [0xeeu8; 576];
-    let refusal = refusal_of(writer::write_first(list, 2, lift, &mut out));
-    refusal == 35 && all_bytes(&out, 0xee)
-}
-
 // 35 of the writer, before 14 and 15. Lift 65,537 is 1 in its lower 16 bits.
 pub fn writers(tally: Tally) -> Tally {
     let names: &[u8] = b"\
@@ -80,8 +72,8 @@ pub fn writers(tally: Tally) -> Tally {
     t = case(t, names, is_refused(2, 1000));
     t = case(t, names, is_refused(2, 65537));
     t = case(t, names, is_refused(4097, 0));
-    t = case(t, names, are_refused(0));
-    case(t, names, are_refused(65537))
+    t = case(t, names, are_not_written(2, 0, 35));
+    case(t, names, are_not_written(2, 65537, 35))
 }
 
 // The lift that the checker says, or 65,536.

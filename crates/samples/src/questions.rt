@@ -90,23 +90,25 @@ pub fn buffers(tally: Tally) -> Tally {
     case(t, names, length == 576)
 }
 
-// An admission twice.
-fn equal_admissions(tally: Tally, names: &[u8]) -> Tally {
+// Whether a list of one admission `n` times is refused with `number` for a lift, and the buffer stays as lent.
+pub fn are_not_written(n: usize, lift: u32, number: u8) -> bool {
     let list = [Admission { holder: 0, slot: 0 }; 4096];
     let mut out = [0xeeu8; 576];
-    let refusal = refusal_of(writer::write_first(list, 2, 7, &mut out));
-    let t = case(tally, names, refusal == 15);
-    case(t, names, all_bytes(&out, 0xee))
+    let refusal = refusal_of(writer::write_first(list, n, lift, &mut out));
+    refusal == number && all_bytes(&out, 0xee)
 }
 
-// 15 and plate 9, through the list of admissions.
+// 14, 15 and plate 9, through the list of admissions.
 pub fn admissions(tally: Tally) -> Tally {
     let names: &[u8] = b"\
         15: an admission twice\n\
-        15: the buffer stays as lent\n\
+        14: 4,097 admissions of an array\n\
+        35: 4,097 admissions of an array, for lift 0\n\
         plate 9 from admissions: 576 bytes\n\
         plate 9 from admissions: the same bytes\n";
-    let mut t = equal_admissions(tally, names);
+    let mut t = case(tally, names, are_not_written(2, 7, 15));
+    t = case(t, names, are_not_written(4097, 7, 14));
+    t = case(t, names, are_not_written(4097, 0, 35));
     let mut list = [Admission { holder: 0, slot: 0 }; 4096];
     list[1] = Admission { holder: 0, slot: 1 };
     let mut out = [0xeeu8; 576];
