@@ -15,8 +15,9 @@
  *
  * Every function that takes an image checks all of it first; there is no need to call lpt_check before.
  *
- * Stack, measured on 4,096 random admissions on x86-64: lpt_write 17,232 bytes, lpt_list 2,872, lpt_count
- * 2,840, lpt_scan 1,184, lpt_lookup 1,120, lpt_find 560, lpt_check and lpt_lift 320.
+ * Stack, measured on 4,096 random admissions on x86-64: lpt_write_keys 18,152 bytes, lpt_write 17,088, lpt_list
+ * 2,872, lpt_count 2,840, lpt_scan 1,024, lpt_lookup 960, lpt_find 560, lpt_key 544, lpt_check and lpt_lift 320,
+ * lpt_admission_of 88.
  */
 #ifndef LPT_H
 #define LPT_H
@@ -57,7 +58,7 @@ typedef struct {
 #define LPT_NO_LIFT 35        /* version 2, or writing: the lift is not 1 to 999 */
 #define LPT_NO_LENGTH 6       /* the length is not 64 x (1 + all page counts) */
 #define LPT_NO_BAND_COUNTS 7  /* page and root counts do not fit the key count */
-#define LPT_NO_COUNTERS 8     /* a page's T or B is wrong */
+#define LPT_NO_COUNTERS 8     /* T or B of a band's first page is not 0, or a later page's B is wrong */
 #define LPT_NO_ROOTS 9        /* a page has not 1 to 60 roots */
 #define LPT_NO_NODES 10       /* a page calls for more than 240 nodes, or a node is 00 */
 #define LPT_NO_PADDING 11     /* a pair after a page's last node is not 00 */
