@@ -38,22 +38,22 @@ fn band_refusal(image: &[u8], band: usize, first: usize) -> u8
     let pages = page_count(image, band);
     let roots = root_count(image, band);
     let mut t = Root(0);
-    let mut links = OutLink(0);
+    let mut b = OutLink(0);
     let mut nodes = 241;
     let mut i = 0;
     while i < pages {
         let next = next_root(image, first, i, pages, roots);
-        let found = check_page(image, 64 * (first + i), t, links, next, nodes);
+        let found = check_page(image, 64 * (first + i), t, b, next, nodes);
         if found.refusal != 0 {
             return found.refusal;
         }
         t = next;
-        links = OutLink(links.0 + found.links);
+        b = OutLink(b.0 + found.links);
         nodes = found.nodes;
         i += 1;
     }
     // The number of the out-link after the band's last is how many the band has.
-    if links.0 != links_due(image, band) {
+    if b.0 != links_due(image, band) {
         return 13;
     }
     0

@@ -66,23 +66,23 @@ fn check_shape(image: &[u8], at: usize, roots: usize, previous: usize) -> Shape
     found
 }
 
-// Questions 8 to 12 of the page at `at`. Before it stand the band's roots below `t` and its out-links below `links`, `next` is the first root after it, and
+// Questions 8 to 12 of the page at `at`. Before it stand the band's roots below `t` and its out-links below `b`, `next` is the first root after it, and
 // the page before has `previous` nodes: 241 in a band's first page, which is always needed.
 pub(crate) fn check_page(
     image: &[u8],
     at: usize,
     t: Root,
-    links: OutLink,
+    b: OutLink,
     next: Root,
     previous: usize,
 ) -> Shape
     requires { ⌜ (at + 64 ≤ length (now image)) × (previous ≤ 241) ⌝ }
-    ensures { λ r. ⌜ PageAsked (now (image .entry)) at (t .0) (links .0) (next .0) previous r ⌝ }
+    ensures { λ r. ⌜ PageAsked (now (image .entry)) at (t .0) (b .0) (next .0) previous r ⌝ }
 {
     if number(image, at) != t.0 {
         return refused(8);
     }
-    if number(image, at + 2) != links.0 {
+    if number(image, at + 2) != b.0 {
         return refused(8);
     }
     if next.0 <= t.0 {

@@ -28,24 +28,24 @@ pub record Pages (q out₀ : List ℕ) (first : ℕ) (keys out : List ℕ) (head
   pub room : 64 * (first + length (pagesOf (bandAbove q))) ≤ length out₀
   pub within : from ≤ length q
   pub done : List ℕ
-  pub all : done ++ bandBytes (head .root .0) (head .link .0) (pagesOf (bandAbove (drop from q))) ≡ bytesOfBand (bandAbove q)
+  pub all : done ++ bandBytes (head .t .0) (head .b .0) (pagesOf (bandAbove (drop from q))) ≡ bytesOfBand (bandAbove q)
   pub done-size : 64 * first + length done ≡ 64 * number
   pub out-is : out ≡ take (64 * first) out₀ ++ (done ++ drop (64 * number) out₀)
   pub same-out : length out ≡ length out₀
   pub pages-left : number + length (pagesOf (bandAbove (drop from q))) ≡ first + length (pagesOf (bandAbove q))
   pub same-keys : length keys ≡ length q
   pub unread : drop from keys ≡ drop from q
-  pub T-is : head .root .0 ≡ length (heads 4 (part 0 from q))
-  pub T-few : head .root .0 ≤ from
-  pub B-few : head .link .0 ≤ from
-  pub lifted : take (head .root .0) keys ≡ heads 4 (part 0 from q)
+  pub T-is : head .t .0 ≡ length (heads 4 (part 0 from q))
+  pub T-few : head .t .0 ≤ from
+  pub B-few : head .b .0 ≤ from
+  pub lifted : take (head .t .0) keys ≡ heads 4 (part 0 from q)
   pub apart : 0 < from → from < length q → getD q (from - 1) 0 / 16 ≡ getD q from 0 / 16 → ⊥
 
 heads-none : heads 4 [] ≡ []
 unfolding heads parents
 heads-none = refl
 
-pub pages-start : (q out : List ℕ) (first : ℕ) → BandRoom q out first → Pages q out first q out (record { root = record { 0 = 0 }; link = record { 0 = 0 } }) first 0
+pub pages-start : (q out : List ℕ) (first : ℕ) → BandRoom q out first → Pages q out first q out (record { t = record { 0 = 0 }; b = record { 0 = 0 } }) first 0
 unfolding bytesOfBand
 pages-start q out first g =
     record {
@@ -128,15 +128,15 @@ module _ (q out₀ : List ℕ) (first : ℕ) (keys out : List ℕ) (head : Head)
       d = rw run-keys at d′
 
       abbrev n : ℕ
-      n = head′ .root .0 - head .root .0
+      n = head′ .t .0 - head .t .0
 
-      T-more : head′ .root .0 ≡ head .root .0 + length (heads 4 (part from (from + run .end) q))
-      T-more = d .T-next ∙ ap (head .root .0 +_) (roots-are _ _ (part from (from + run .end) q) here)
+      T-more : head′ .t .0 ≡ head .t .0 + length (heads 4 (part from (from + run .end) q))
+      T-more = d .T-next ∙ ap (head .t .0 +_) (roots-are _ _ (part from (from + run .end) q) here)
 
       n-is : n ≡ length (heads 4 (part from (from + run .end) q))
       n-is = omega (arith, T-more)
 
-      pub T-grows : head .root .0 ≤ head′ .root .0
+      pub T-grows : head .t .0 ≤ head′ .t .0
       T-grows = omega (arith, T-more)
 
       n-few : n ≤ run .end
@@ -157,7 +157,7 @@ module _ (q out₀ : List ℕ) (first : ℕ) (keys out : List ℕ) (head : Head)
       K-length : length K ≡ length q
       K-length = length-put from (from + run .end - from) keys keys′ room-there keys-fit ∙ s .same-keys
 
-      pub move-room : (head .root .0 + (head′ .root .0 - head .root .0) ≤ from + run .end) × (from + run .end ≤ length (put from (from + run .end - from) keys keys′))
+      pub move-room : (head .t .0 + (head′ .t .0 - head .t .0) ≤ from + run .end) × (from + run .end ≤ length (put from (from + run .end - from) keys keys′))
       move-room = (omega (arith, n-few, s .T-few), omega (arith, K-length, end-within))
 
       -- what the moved prefixes are
@@ -180,37 +180,37 @@ module _ (q out₀ : List ℕ) (first : ℕ) (keys out : List ℕ) (head : Head)
                 ap (λ (l : List ℕ). heads 4 (l ++ part from (from + run .end) q)) e ∙ sym (ap (_++ heads 4 (part from (from + run .end) q)) (ap (heads 4) e ∙ heads-none))
           ]
 
-      module _ (keys″ : List ℕ) (moved : keys″ ≡ take (head .root .0) K ++ (take n (drop (from + run .end - n) K) ++ drop (head .root .0 + n) K)) where
-        T-length : length (take (head .root .0) K) ≡ head .root .0
-        T-length = length-take-le (head .root .0) K (omega (arith, K-length, s .T-few, s .within))
+      module _ (keys″ : List ℕ) (moved : keys″ ≡ take (head .t .0) K ++ (take n (drop (from + run .end - n) K) ++ drop (head .t .0 + n) K)) where
+        T-length : length (take (head .t .0) K) ≡ head .t .0
+        T-length = length-take-le (head .t .0) K (omega (arith, K-length, s .T-few, s .within))
 
-        moved-length : length (take (head .root .0) K ++ take n (drop (from + run .end - n) K)) ≡ head′ .root .0
-        moved-length = omega (arith, length-append (take (head .root .0) K) (take n (drop (from + run .end - n) K)), T-length, ap length moved-are, n-is, T-grows)
+        moved-length : length (take (head .t .0) K ++ take n (drop (from + run .end - n) K)) ≡ head′ .t .0
+        moved-length = omega (arith, length-append (take (head .t .0) K) (take n (drop (from + run .end - n) K)), T-length, ap length moved-are, n-is, T-grows)
 
-        joined : keys″ ≡ (take (head .root .0) K ++ take n (drop (from + run .end - n) K)) ++ drop (head′ .root .0) K
+        joined : keys″ ≡ (take (head .t .0) K ++ take n (drop (from + run .end - n) K)) ++ drop (head′ .t .0) K
         joined =
-            let e : head .root .0 + n ≡ head′ .root .0 = omega (arith, T-grows) in
-            moved ∙ sym (append-assoc (take (head .root .0) K) (take n (drop (from + run .end - n) K)) (drop (head .root .0 + n) K)) ∙ ap (λ (k : ℕ). (take (head .root .0) K ++ take n (drop (from + run .end - n) K)) ++ drop k K) e
+            let e : head .t .0 + n ≡ head′ .t .0 = omega (arith, T-grows) in
+            moved ∙ sym (append-assoc (take (head .t .0) K) (take n (drop (from + run .end - n) K)) (drop (head .t .0 + n) K)) ∙ ap (λ (k : ℕ). (take (head .t .0) K ++ take n (drop (from + run .end - n) K)) ++ drop k K) e
 
-        new-lifted : take (head′ .root .0) keys″ ≡ heads 4 (part 0 (from + run .end) q)
+        new-lifted : take (head′ .t .0) keys″ ≡ heads 4 (part 0 (from + run .end) q)
         new-lifted =
-            ap (take (head′ .root .0)) joined
-            ∙ take-at (take (head .root .0) K ++ take n (drop (from + run .end - n) K)) (drop (head′ .root .0) K) (head′ .root .0) moved-length
-            ∙ ap₂ _++_ (take-put from (from + run .end - from) keys keys′ room-there keys-fit (head .root .0) (s .T-few) ∙ s .lifted) moved-are
+            ap (take (head′ .t .0)) joined
+            ∙ take-at (take (head .t .0) K ++ take n (drop (from + run .end - n) K)) (drop (head′ .t .0) K) (head′ .t .0) moved-length
+            ∙ ap₂ _++_ (take-put from (from + run .end - from) keys keys′ room-there keys-fit (head .t .0) (s .T-few) ∙ s .lifted) moved-are
             ∙ sym all-roots
 
-        T-few′ : head′ .root .0 ≤ from + run .end
+        T-few′ : head′ .t .0 ≤ from + run .end
         T-few′ = omega (arith, n-few, s .T-few, T-grows)
 
         new-unread : drop (from + run .end) keys″ ≡ drop (from + run .end) q
         new-unread =
-            let j : head′ .root .0 + (from + run .end - head′ .root .0) ≡ from + run .end = omega (arith, T-few′) in
+            let j : head′ .t .0 + (from + run .end - head′ .t .0) ≡ from + run .end = omega (arith, T-few′) in
             let a : from + (from + run .end - from) ≡ from + run .end = omega arith in
             let r : drop (from + run .end) K ≡ drop (from + run .end) keys = ap (λ (k : ℕ). drop k K) (sym a) ∙ rest-put from (from + run .end - from) keys keys′ room-there keys-fit ∙ ap (λ (k : ℕ). drop k keys) a in
             ap₂ drop (sym j) joined
-            ∙ ap (λ (k : ℕ). drop (k + (from + run .end - head′ .root .0)) ((take (head .root .0) K ++ take n (drop (from + run .end - n) K)) ++ drop (head′ .root .0) K)) (sym moved-length)
-            ∙ drop-append-add (take (head .root .0) K ++ take n (drop (from + run .end - n) K)) (drop (head′ .root .0) K) (from + run .end - head′ .root .0)
-            ∙ drop-drop (from + run .end - head′ .root .0) (head′ .root .0) K
+            ∙ ap (λ (k : ℕ). drop (k + (from + run .end - head′ .t .0)) ((take (head .t .0) K ++ take n (drop (from + run .end - n) K)) ++ drop (head′ .t .0) K)) (sym moved-length)
+            ∙ drop-append-add (take (head .t .0) K ++ take n (drop (from + run .end - n) K)) (drop (head′ .t .0) K) (from + run .end - head′ .t .0)
+            ∙ drop-drop (from + run .end - head′ .t .0) (head′ .t .0) K
             ∙ ap (λ (k : ℕ). drop k K) j
             ∙ r
             ∙ sym (drop-drop (run .end) from keys)
@@ -218,7 +218,7 @@ module _ (q out₀ : List ℕ) (first : ℕ) (keys out : List ℕ) (head : Head)
             ∙ drop-drop (run .end) from q
 
         new-length : length keys″ ≡ length q
-        new-length = omega (arith, ap length joined, length-append (take (head .root .0) K ++ take n (drop (from + run .end - n) K)) (drop (head′ .root .0) K), moved-length, length-drop (head′ .root .0) K, K-length, T-few′, end-within)
+        new-length = omega (arith, ap length joined, length-append (take (head .t .0) K ++ take n (drop (from + run .end - n) K)) (drop (head′ .t .0) K), moved-length, length-drop (head′ .t .0) K, K-length, T-few′, end-within)
 
         -- the buffer
         at-length : length (take (64 * first) out₀ ++ s .done) ≡ 64 * number
@@ -231,7 +231,7 @@ module _ (q out₀ : List ℕ) (first : ℕ) (keys out : List ℕ) (head : Head)
         out-rest = ap (drop (64 * number)) out-joined ∙ drop-at (take (64 * first) out₀ ++ s .done) (drop (64 * number) out₀) (64 * number) at-length
 
         new-page : List ℕ
-        new-page = pageBytes (head .root .0) (head .link .0) (bandAbove (part from (from + run .end) q))
+        new-page = pageBytes (head .t .0) (head .b .0) (bandAbove (part from (from + run .end) q))
 
         page-is : page′ ≡ new-page ++ drop (64 * number + 64) out₀
         unfolding new-page
@@ -252,19 +252,19 @@ module _ (q out₀ : List ℕ) (first : ℕ) (keys out : List ℕ) (head : Head)
 
         new-size : 64 * first + length (s .done ++ new-page) ≡ 64 * (number + 1)
         unfolding new-page
-        new-size = omega (arith, length-append (s .done) new-page, length-pageBytes (head .root .0) (head .link .0) (bandAbove (part from (from + run .end) q)), s .done-size)
+        new-size = omega (arith, length-append (s .done) new-page, length-pageBytes (head .t .0) (head .b .0) (bandAbove (part from (from + run .end) q)), s .done-size)
 
-        new-all : (s .done ++ new-page) ++ bandBytes (head′ .root .0) (head′ .link .0) (pagesOf (bandAbove (drop (from + run .end) q))) ≡ bytesOfBand (bandAbove q)
+        new-all : (s .done ++ new-page) ++ bandBytes (head′ .t .0) (head′ .b .0) (pagesOf (bandAbove (drop (from + run .end) q))) ≡ bytesOfBand (bandAbove q)
         unfolding bandBytes new-page
         new-all =
             let rest : pagesOf (bandAbove (drop from q)) ≡ bandAbove (part from (from + run .end) q) ∷ pagesOf (bandAbove (drop (from + run .end) q)) =
             p .page ∙ ap₂ (λ (a b : List ℕ). bandAbove a ∷ pagesOf (bandAbove b)) (sym run-q) (drop-drop (run .end) from q) in
-            append-assoc (s .done) new-page (bandBytes (head′ .root .0) (head′ .link .0) (pagesOf (bandAbove (drop (from + run .end) q))))
-            ∙ ap (s .done ++_) (ap₂ (λ (t b : ℕ). new-page ++ bandBytes t b (pagesOf (bandAbove (drop (from + run .end) q)))) (d .T-next) (d .B-next) ∙ sym (ap (bandBytes (head .root .0) (head .link .0)) rest))
+            append-assoc (s .done) new-page (bandBytes (head′ .t .0) (head′ .b .0) (pagesOf (bandAbove (drop (from + run .end) q))))
+            ∙ ap (s .done ++_) (ap₂ (λ (t b : ℕ). new-page ++ bandBytes t b (pagesOf (bandAbove (drop (from + run .end) q)))) (d .T-next) (d .B-next) ∙ sym (ap (bandBytes (head .t .0) (head .b .0)) rest))
             ∙ s .all
 
-        B-more : head′ .link .0 ≡ head .link .0 + run .end
-        B-more = d .B-next ∙ ap (head .link .0 +_) (links-are _ _ (part from (from + run .end) q) here ∙ run-length)
+        B-more : head′ .b .0 ≡ head .b .0 + run .end
+        B-more = d .B-next ∙ ap (head .b .0 +_) (links-are _ _ (part from (from + run .end) q) here ∙ run-length)
 
         new-left : number + 1 + length (pagesOf (bandAbove (drop (from + run .end) q))) ≡ first + length (pagesOf (bandAbove q))
         new-left = omega (arith, s .pages-left, ap length (p .page), ap (λ (l : List ℕ). length (pagesOf (bandAbove l))) (drop-drop (run .end) from q))
@@ -299,13 +299,13 @@ module _ (q out₀ : List ℕ) (first : ℕ) (keys out : List ℕ) (head : Head)
             after : getD (drop from q) (run .end) 0 ≡ getD q (from + run .end) 0
             after = getD-drop from q (run .end) 0
 
-pub pages-end : (q out₀ : List ℕ) (first : ℕ) (keys out : List ℕ) (head : Head) (number from : ℕ) → Pages q out₀ first keys out head number from → length keys ≤ from → BandDone q out₀ first keys out (head .root .0)
+pub pages-end : (q out₀ : List ℕ) (first : ℕ) (keys out : List ℕ) (head : Head) (number from : ℕ) → Pages q out₀ first keys out head number from → length keys ≤ from → BandDone q out₀ first keys out (head .t .0)
 unfolding pagesFrom bandBytes
 pages-end q out₀ first keys out head number from s end =
     let e : from ≡ length q = omega (arith, s .same-keys, s .within) in
     let no-keys : drop from q ≡ [] = ap (λ (j : ℕ). drop j q) e ∙ drop-length q in
     let none : pagesOf (bandAbove (drop from q)) ≡ [] = ap (λ (l : List ℕ). pagesOf (bandAbove l)) no-keys ∙ no-pages in
-    let done : s .done ≡ bytesOfBand (bandAbove q) = sym (append-nil (s .done)) ∙ ap (s .done ++_) (sym (ap (bandBytes (head .root .0) (head .link .0)) none)) ∙ s .all in
+    let done : s .done ≡ bytesOfBand (bandAbove q) = sym (append-nil (s .done)) ∙ ap (s .done ++_) (sym (ap (bandBytes (head .t .0) (head .b .0)) none)) ∙ s .all in
     let size : 64 * number ≡ 64 * first + length (bytesOfBand (bandAbove q)) = sym (s .done-size) ∙ ap (λ (l : List ℕ). 64 * first + length l) done in
     record {
       bytes = s .out-is ∙ ap₂ (λ (a : List ℕ) (k : ℕ). take (64 * first) out₀ ++ (a ++ drop k out₀)) done size;

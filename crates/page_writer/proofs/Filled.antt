@@ -47,7 +47,7 @@ no-ones (suc n) = omega (arith, no-ones n)
 -- ---- the page
 
 module _ (page q : List ℕ) (count : ℕ) (head : Head) (g : PageRoom page q count head) (p₁ : List ℕ)
-    (begun : p₁ ≡ twoBytes (head .root .0) ++ (twoBytes (head .link .0) ++ (replicate 60 0 ++ drop 64 page))) where
+    (begun : p₁ ≡ twoBytes (head .t .0) ++ (twoBytes (head .b .0) ++ (replicate 60 0 ++ drop 64 page))) where
   no-nodes : nodesOf p₁ ≡ replicate 240 0
   unfolding nodesOf twoBytes pairsOf flatMap
   no-nodes = ap (λ (p : List ℕ). flatMap pairsOf (take 60 (drop 4 p))) begun
@@ -114,12 +114,12 @@ module _ (page q : List ℕ) (count : ℕ) (head : Head) (g : PageRoom page q co
         let e = bytes-back (nodeBytes 60 cells) (flatten (bandAbove q)) (replicate (240 - count) 0) (nodes-back 60 cells cells-length cells-small) (zeros-all (240 - count)) in
         sym (ap (λ (n : ℕ). nodeBytes n (flatten (bandAbove q))) (sym (length-nodeBytes 60 cells)) ∙ e)
 
-    filled-bytes : p₂ ≡ pageBytes (head .root .0) (head .link .0) (bandAbove q) ++ drop 64 page
+    filled-bytes : p₂ ≡ pageBytes (head .t .0) (head .b .0) (bandAbove q) ++ drop 64 page
     unfolding withNodes pageBytes twoBytes cells
     filled-bytes =
         d .bytes
         ∙ ap (λ (p : List ℕ). take 4 p ++ (nodeBytes 60 cells ++ drop 64 p)) begun
-        ∙ ap (λ (l : List ℕ). twoBytes (head .root .0) ++ (twoBytes (head .link .0) ++ (l ++ drop 64 page))) no-more
+        ∙ ap (λ (l : List ℕ). twoBytes (head .t .0) ++ (twoBytes (head .b .0) ++ (l ++ drop 64 page))) no-more
 
     -- the on bits of all nodes are those before the fourth level and its own, the out-links
     module _ (small : All Byte p₂) (words : Words) (gathered : words ≡ wordsOf p₂ 0) (all before : ℕ) (is-all : all ≡ getD (words .before) 8 0) (is-before : before ≡ onesBefore (words .word) (words .before) (level .node)) where
@@ -133,14 +133,14 @@ module _ (page q : List ℕ) (count : ℕ) (head : Head) (g : PageRoom page q co
           ap onBits fourth ∙ onBits-append (nodesOver (heads 0 q)) (replicate (240 - count) 0) ∙ ap (λ (v : List (List ℕ)). onBits (getD v 3 []) + onBits (replicate (240 - count) 0)) (sym (four-levels q)) in
           omega (arith, a, b, l, no-ones (240 - count), onBits-split (level .node) cells)
 
-      pub page-done : PageDone page q head p₂ q₂ (record { root = record { 0 = head .root .0 + (length q₂ - level .first) }; link = record { 0 = head .link .0 + (all - before) } })
+      pub page-done : PageDone page q head p₂ q₂ (record { t = record { 0 = head .t .0 + (length q₂ - level .first) }; b = record { 0 = head .b .0 + (all - before) } })
       page-done =
           let first : length q - rootsIn (bandAbove q) ≡ level .first = omega (arith, roots-found, d .memory .free, first-within) in
           let links : all - before ≡ onBits (getD (bandAbove q) 3 []) = omega (arith, links-more) in
           record {
             bytes = filled-bytes;
-            T-next = ap (head .root .0 +_) roots-found;
-            B-next = ap (head .link .0 +_) links;
+            T-next = ap (head .t .0 +_) roots-found;
+            B-next = ap (head .b .0 +_) links;
             memory = d .memory;
             lifted = ap (λ (n : ℕ). drop n q₂) first ∙ d .lifted;
           }

@@ -78,13 +78,13 @@ pub record PageRoom (page prefixes : List ℕ) (count : ℕ) (head : Head) : Typ
   pub room : 64 ≤ length page
   pub counted : count ≡ nodeCount (rootsIn (bandAbove prefixes)) (bandAbove prefixes)
   pub fits : count ≤ 240
-  pub T-fits : head .root .0 + length prefixes ≤ 4096
-  pub B-fits : head .link .0 + length prefixes ≤ 4096
+  pub T-fits : head .t .0 + length prefixes ≤ 4096
+  pub B-fits : head .b .0 + length prefixes ≤ 4096
 
 -- the filled page, the T and B of the next, and the prefixes of the page's roots in the last places
 pub record PageDone (page prefixes : List ℕ) (head : Head) (page′ prefixes′ : List ℕ) (head′ : Head) : Type 0 where
-  pub bytes : page′ ≡ pageBytes (head .root .0) (head .link .0) (bandAbove prefixes) ++ drop 64 page
-  pub T-next : head′ .root .0 ≡ head .root .0 + rootsIn (bandAbove prefixes)
-  pub B-next : head′ .link .0 ≡ head .link .0 + onBits (getD (bandAbove prefixes) 3 [])
+  pub bytes : page′ ≡ pageBytes (head .t .0) (head .b .0) (bandAbove prefixes) ++ drop 64 page
+  pub T-next : head′ .t .0 ≡ head .t .0 + rootsIn (bandAbove prefixes)
+  pub B-next : head′ .b .0 ≡ head .b .0 + onBits (getD (bandAbove prefixes) 3 [])
   pub memory : MemoryAfter prefixes prefixes′
   pub lifted : drop (length prefixes - rootsIn (bandAbove prefixes)) prefixes′ ≡ rootsAbove prefixes

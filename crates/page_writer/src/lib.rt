@@ -12,8 +12,8 @@ ghost use Rattle.page_writer.specs.Page.{bitIn, pageLeft, byteLeft, Leve
 
 // Paper 01's T and B of a page: the numbers of its first root and its first out-link.
 pub struct Head {
-    pub root: Root,
-    pub link: OutLink,
+    pub t: Root,
+    pub b: OutLink,
 }
 
 // The place of the first parent among the prefixes, and the level's first node.
@@ -97,11 +97,11 @@ fn fill_level(page: &mut [u8], keys: &mut [u32], from: usize, end: usize) -> Lev
 
 // Writes T and B, and nodes that are 00.
 fn begin_page(page: &mut [u8], head: Head)
-    requires { ⌜ (64 ≤ length (now page)) × (head .root .0 < 65536) × (head .link .0 < 65536) ⌝ }
-    ensures { λ _. ⌜ now (page .exit) ≡ twoBytes (head .root .0) ++ (twoBytes (head .link .0) ++ (replicate 60 0 ++ drop 64 (now (page .entry)))) ⌝ }
+    requires { ⌜ (64 ≤ length (now page)) × (head .t .0 < 65536) × (head .b .0 < 65536) ⌝ }
+    ensures { λ _. ⌜ now (page .exit) ≡ twoBytes (head .t .0) ++ (twoBytes (head .b .0) ++ (replicate 60 0 ++ drop 64 (now (page .entry)))) ⌝ }
 {
-    put_number(page, 0, head.root.0 as u16);
-    put_number(page, 2, head.link.0 as u16);
+    put_number(page, 0, head.t.0 as u16);
+    put_number(page, 2, head.b.0 as u16);
     clear(page, 4, 60);
 }
 
@@ -134,7 +134,7 @@ pub fn fill_page(page: &mut [u8], keys: &mut [u32], count: usize, head: Head) ->
     let links = nodes::on_bits(&words.before)
         - nodes::on_bits_before(&words.word, &words.before, levels.node);
     Head {
-        root: Root(head.root.0 + roots),
-        link: OutLink(head.link.0 + links),
+        t: Root(head.t.0 + roots),
+        b: OutLink(head.b.0 + links),
     }
 }

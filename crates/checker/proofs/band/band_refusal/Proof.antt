@@ -6,10 +6,10 @@ use Rattle.checker.proofs.band.band_refusal.Statement.{statement}
 use Rattle.checker.proofs.band.band_refusal.Tie as tie
 
 abbrev Inv-loop : tie.InvT-loop
-Inv-loop image band first pages roots t₀ links₀ nodes₀ i₀ t links nodes i = Turn image band first pages roots i (t .0) (links .0) nodes
+Inv-loop image band first pages roots t₀ b₀ nodes₀ i₀ t b nodes i = Turn image band first pages roots i (t .0) (b .0) nodes
 
 abbrev μ-loop : tie.MeasureT-loop
-μ-loop image band first pages roots t₀ links₀ nodes₀ i₀ t links nodes i = pages - i
+μ-loop image band first pages roots t₀ b₀ nodes₀ i₀ t b nodes i = pages - i
 
 loop-holds : tie.Need-loop-holds Inv-loop μ-loop
 loop-holds c = turn-start _ _ _ _ _ (c .before .before .before .pre) (c .before .page-count .ensures .0) (c .root-count .ensures .0)
