@@ -20,7 +20,7 @@ use Rattle.format.proofs.Back.{listed}
 use Rattle.checker.specs.Outcomes.{outcomeOf}
 use Rattle.checker.specs.declared.Checked.{Checked}
 use Rattle.checker.specs.declared.Checked.the-variants.{Accepted, Refused}
-use Rattle.capi.specs.Encoding.{WithinCount}
+use Rattle.capi.specs.Small.{WithinCount}
 
 -- a job that asks 1 to 13 first and returns the number of some of the keys
 members-few : (img : List ℕ) → All Byte img → (qs : List Question) (rectangle : Rectangle) (n : ℕ) → settle (imageQuestions img ++ qs) (length (memberKeys img rectangle)) ≡ returns n → n ≤ 4096

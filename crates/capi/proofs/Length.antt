@@ -19,7 +19,8 @@ use Rattle.format.proofs.Bounds.{page-bound}
 use Rattle.writer.specs.Outcomes.{WrittenKeys, WrittenList, outcomeOf, pairsIn}
 use Rattle.writer.specs.declared.Written.{Written}
 use Rattle.writer.specs.declared.Written.the-variants.{Length, Refused}
-use Rattle.capi.specs.Encoding.{WithinBound, WrittenToC, encoded}
+use Rattle.capi.specs.Encoding.{WrittenToC, encoded}
+use Rattle.capi.specs.Small.{WithinBound}
 
 -- a length that the writer returns is within format's bound
 keys-small : (lift : ℕ) (keys : List ℕ) → All (λ key. key < 2 ^ 32) keys → (buffer : List ℕ) (n : ℕ) → writeKeys (liftQuestion lift) lift keys buffer ≡ returns n → n ≤ 24640

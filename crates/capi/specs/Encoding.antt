@@ -2,19 +2,16 @@
 -- Assumes nothing.
 use mathlib.Core.List.{List, _∷_}
 use mathlib.Core.Path.{_≡_}
-use Prim.Native.Nat.{ℕ, _+_, _*_, _≤_}
+use Prim.Native.Nat.{ℕ, _+_, _*_}
 use lib.IntN.{ℤ, pos, negℤ}
 use Rattle.format.specs.declared.Admission.{Admission}
 use Rattle.format.specs.declared.Rectangle.{Rectangle}
 use Rattle.format.specs.Writer.{write, bufferAfterWrite}
 use Rattle.writer.specs.Outcomes.{pairsIn}
-use Rattle.checker.specs.declared.Checked.{Checked}
-use Rattle.checker.specs.declared.Checked.the-variants.{Accepted, Refused}
-use Rattle.writer.specs.declared.Written.{Written}
-use Rattle.writer.specs.declared.Written.the-variants as written
 use Rattle.format.specs.Question.{Outcome, refused, returns}
 use Rattle.format.specs.Answer.{LookupAnswer, absent, listed}
 
+-- a job that returns a number
 abbrev pub encoded : Outcome ℕ → ℤ
 encoded (returns n) = pos n
 encoded (refused n) = negℤ (pos n)
@@ -43,16 +40,6 @@ encodedFind (refused n) = negℤ (pos n)
 -- the rectangle of holders h0 to h1 and slots s0 to s1
 abbrev pub rectangleOf : ℕ → ℕ → ℕ → ℕ → Rectangle
 rectangleOf h0 h1 s0 s1 = record { holders = record { low = h0; high = h1 }; slots = record { low = s0; high = s1 } }
-
--- an answer of the writer whose length, where it has one, is within format's bound
-abbrev pub WithinBound : Written → Type 0
-WithinBound (written.Length n) = n ≤ 24640
-WithinBound (written.Refused n) = Unit {0}
-
--- an answer of the checker whose number, where it has one, is small: a key count or a lift
-abbrev pub WithinCount : Checked → Type 0
-WithinCount (Accepted n) = n ≤ 4096
-WithinCount (Refused n) = Unit {0}
 
 -- the writer for a lift: what it returns, and the buffer at exit
 pub record WrittenToC (lift : ℕ) (list : List Admission) (buffer : List ℕ) (r : ℤ) (buffer′ : List ℕ) : Type 0 where

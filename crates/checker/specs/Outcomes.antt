@@ -1,4 +1,4 @@
--- The checker's answer in paper 01's terms: a refusal's number, or the key count.
+-- The checker's answer in the papers' terms: a refusal's number, or the key count, or the lift.
 -- Assumes nothing.
 use Prim.Native.Nat.{ℕ}
 use Rattle.format.specs.Question.{Outcome, refused, returns}

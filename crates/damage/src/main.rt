@@ -1,6 +1,6 @@
 // Reads an image from standard input, turns over each of its bits in turn, and prints how many of these images each question refuses, which have
 // another lift and are accepted with the same list, and which are accepted otherwise, with the list that such an image then has. No image is: a bit
-// of the lift is the only one that can go unnoticed.
+// of the lift is the only one that can go unnoticed. Input that is refused prints what the listing program prints of it.
 use checker::Checked;
 use testing::one_more;
 use testing::starts_with_bytes;
@@ -166,7 +166,7 @@ fn say_survey(survey: Survey, bytes: usize) {
 }
 
 // Whether the listing program's text says that the image is refused.
-fn is_refusal(text: &[u8]) -> bool {
+fn says_refused(text: &[u8]) -> bool {
     starts_with_bytes(text, b"refused ")
 }
 
@@ -176,7 +176,7 @@ fn main() {
     let mut out = [0u8; 73745];
     let size = report::report_input(&input, n, &mut out);
     let text = &out[0..size];
-    if is_refusal(text) {
+    if says_refused(text) {
         io::write_all(1, text);
         return;
     }

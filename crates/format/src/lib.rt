@@ -1,4 +1,4 @@
-// The types that the jobs share, the most bytes of an image, and which numbers are lift numbers. The definitions of the format are in specs/, the laws about them in proofs/.
+// The types that the jobs share, the crossing between bands and back, the most bytes of an image, and which numbers are lift numbers. The definitions of the format are in specs/, the laws about them in proofs/.
 ghost use mathlib.Core.Path.{_≡_};
 ghost use Rattle.format.specs.Band.{crossed};
 ghost use Rattle.format.specs.Question.{isLift};

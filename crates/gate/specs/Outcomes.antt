@@ -1,4 +1,4 @@
--- The gate's answer in paper 01's terms: a refusal's number, or the rank that opened.
+-- The gate's answer in the papers' terms: a refusal's number, or the rank that opened.
 -- Assumes nothing.
 use Prim.Native.Nat.{ℕ}
 use Rattle.format.specs.Question.{Outcome, refused, returns}

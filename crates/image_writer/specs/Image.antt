@@ -38,7 +38,7 @@ pub record BandRoom (prefixes out : List ℕ) (first : ℕ) : Type 0 where
   pub listed : Prefixes prefixes
   pub room : 64 * (first + length (pagesOf (bandAbove prefixes))) ≤ length out
 
--- the band's pages are filled in, and the prefixes of its roots, so many, stand in the first places
+-- the band's pages are filled in, and the prefixes of its roots, so many, stand in the first places; the other places are free
 pub record BandDone (prefixes out : List ℕ) (first : ℕ) (prefixes′ out′ : List ℕ) (roots : ℕ) : Type 0 where
   pub bytes : out′ ≡ pagesFrom out first (bytesOfBand (bandAbove prefixes))
   pub roots-few : roots ≤ length prefixes
@@ -51,7 +51,7 @@ pub record ImageRoom (keys out : List ℕ) (plan : Plan) : Type 0 where
   pub planned : Planned keys plan
   pub room : 64 * (1 + plan .pages) ≤ length out
 
--- the pages of all bands are filled in
+-- the pages of all bands are filled in; the keys' places are free
 pub record BandsDone (keys out keys′ out′ : List ℕ) : Type 0 where
   pub bytes : out′ ≡ pagesFrom out 1 (bytesOfBands keys)
   pub memory : Free keys keys′

@@ -1,6 +1,6 @@
 -- The image writer: its two passes.
 
+-- the image's parts as the writer fills them in
+pub mod Image
 -- what the first pass answers, and what it leaves of the keys
 pub mod Planning
--- the image's parts as the second pass fills them in
-pub mod Image

@@ -1,6 +1,6 @@
--- Packing, and the memory that the writing crates work in.
+-- Packing, and the working memory of the writing crates.
 
--- memory lent to work in: what it holds at exit
+-- working memory: what it holds at exit
 pub mod Memory
 -- lists of prefixes, the pages above them, and what a scan counts
 pub mod Run

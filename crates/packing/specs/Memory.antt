@@ -1,4 +1,4 @@
--- Memory that a function of the writing crates is lent to work in: what it holds at exit.
+-- Working memory, which functions of the writing crates are lent: what it holds at exit.
 -- Assumes nothing.
 use mathlib.Core.Path.{_≡_}
 use mathlib.Core.List.{List}

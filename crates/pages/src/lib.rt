@@ -57,7 +57,7 @@ pub fn band_at(image: &[u8], number: usize, first: usize) -> Band
     }
 }
 
-// The number of T of page `index` of the band, or for `field` 2 of its B.
+// The number of two bytes that page `index` of the band has at byte `field`: T at 0, B at 2.
 fn head_at(image: &[u8], band: Band, field: usize, index: usize) -> usize
     requires { ⌜ (Ready (now image)) × (BandRead (now image) band) × (field ≤ 2) × (index < pageCount (now image) (band .number)) ⌝ }
     ensures { λ r. ⌜ (r ≡ headAt (now (image .entry)) (band .number) field index) × (r < 65536) ⌝ }
@@ -81,7 +81,7 @@ fn b_at(image: &[u8], band: Band, index: usize) -> OutLink
     OutLink(head_at(image, band, 2, index))
 }
 
-// The last page of the band whose T is at or below root `x`, or for `field` 2 whose B is at or below out-link `x`. The first page's is.
+// The last page of the band whose number at `field` is at or below `x`: T and the number of a root, or B and that of an out-link. The first page's is.
 fn last_page(image: &[u8], band: Band, field: usize, x: usize) -> usize
     requires { ⌜ (Ready (now image)) × (BandRead (now image) band) × (field ≤ 2) × (headAt (now image) (band .number) field 0 ≤ x) ⌝ }
     ensures { λ r. ⌜ LastPage (now (image .entry)) (band .number) field x r ⌝ }
@@ -110,7 +110,8 @@ fn next_t(image: &[u8], band: Band, index: usize) -> Root
     Root(band.roots)
 }
 
-// The first out-link after page `index`: B of the next page, or after the last page the out-links that the band must have.
+// The first out-link after page `index`: B of the next page, or after the last page the number of out-links that the band has, which question 13 ties to
+// the count below.
 fn next_b(image: &[u8], band: Band, index: usize) -> OutLink
     requires { ⌜ (Ready (now image)) × (BandRead (now image) band) × (index < pageCount (now image) (band .number)) ⌝ }
     ensures { λ r. ⌜ r .0 ≡ pageB (now (image .entry)) (band .number) index + outLinkCount (now (image .entry)) (band .number) index ⌝ }

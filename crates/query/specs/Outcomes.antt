@@ -1,4 +1,4 @@
--- The jobs' answers in paper 01's terms: a refusal's number, or what the job returns.
+-- The jobs' answers in the papers' terms: a refusal's number, or what the job returns.
 -- Assumes nothing.
 use mathlib.Core.Path.{_≡_}
 use mathlib.Core.List.{List}

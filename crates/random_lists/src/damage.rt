@@ -1,11 +1,11 @@
-// Damaged images. One that is still accepted must be the exact image of its list and its lift, and is counted by what it is: the image as it was, the same
-// list for another lift, or another list.
+// Damaged images. One that is still accepted must be the exact image of its list and its lift, and is counted by what it is: the same list
+// and lift, where two pages alike were exchanged, the same list for another lift, or another list.
 use crate::ask::member_count;
 use crate::ask::pick;
 use crate::tally::DAMAGED;
 use crate::tally::OTHER_LIFT;
 use crate::tally::OTHER_LIST;
-use crate::tally::SAME_BYTES;
+use crate::tally::SAME;
 use crate::tally::Tally;
 use crate::tally::expect;
 use crate::tally::note;
@@ -50,7 +50,7 @@ fn kind(listed: &[u32], keys: &[u32], same_lift: bool) -> usize {
     if !starts_with(listed, keys) {
         return OTHER_LIST;
     }
-    if same_lift { SAME_BYTES } else { OTHER_LIFT }
+    if same_lift { SAME } else { OTHER_LIFT }
 }
 
 // The judgement of an accepted image: whether it is what the writer makes of its listing, and what it is.

@@ -24,7 +24,7 @@ pub const PAIRS: usize = 47;
 
 pub const DAMAGED: usize = 48;
 
-pub const SAME_BYTES: usize = 49;
+pub const SAME: usize = 49;
 
 pub const OTHER_LIFT: usize = 50;
 
@@ -83,7 +83,7 @@ fn say_counts(tally: Tally) {
         scans\n\
         pairs of lists\n\
         damaged images\n\
-        accepted, with the same bytes: two pages alike, exchanged\n\
+        accepted, with the same list and lift\n\
         accepted, with the same list for another lift\n\
         accepted, with another list\n";
     let counts = tally.counts;

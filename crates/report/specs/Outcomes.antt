@@ -1,4 +1,4 @@
--- What the listing program's output is where it has been written.
+-- The listing program's output in the papers' terms: what is returned, and what the lent buffer holds.
 -- Assumes nothing.
 use mathlib.Core.Path.{_≡_}
 use Prim.Native.Nat.{ℕ, _≤_}

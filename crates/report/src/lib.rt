@@ -161,8 +161,8 @@ pub fn report(image: &[u8], out: &mut [u8; 73745]) -> usize
     }
 }
 
-// The output for input that was read into an array with one place more than an image can have bytes, so that longer input shows: the first `n` places are
-// the input, or all where `n` is larger.
+// The output for input that was read into an array with one place more than the 65,536 bytes that are listed, so that longer input shows: the first `n`
+// places are the input, or all where `n` is larger.
 pub fn report_input(input: &[u8; 65537], n: usize, out: &mut [u8; 73745]) -> usize
     ensures { λ r. ⌜ Reported (take n (now (input .entry))) (now (out .entry)) (now (out .exit)) r ⌝ }
 {

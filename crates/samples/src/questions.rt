@@ -102,8 +102,8 @@ pub fn are_not_written(n: usize, lift: u32, number: u8) -> bool {
 pub fn admissions(tally: Tally) -> Tally {
     let names: &[u8] = b"\
         15: an admission twice\n\
-        14: 4,097 admissions of an array\n\
-        35: 4,097 admissions of an array, for lift 0\n\
+        14: n 4,097 of an array of 4,096\n\
+        35: n 4,097 of an array of 4,096, for lift 0\n\
         plate 9 from admissions: 576 bytes\n\
         plate 9 from admissions: the same bytes\n";
     let mut t = case(tally, names, are_not_written(2, 7, 15));

@@ -13,12 +13,12 @@ use Rattle.format.specs.Writer.{liftQuestion}
 use Rattle.format.specs.declared.Admission.{Admission}
 use Rattle.image_writer.specs.declared.Plan.{Plan}
 use Rattle.writer.specs.declared.Written.{Written}
-use Rattle.writer.specs.Outcomes.{WrittenKeys, WrittenList, yesTo35}
+use Rattle.writer.specs.Outcomes.{WrittenKeys, WrittenList}
 use Rattle.packing.specs.Run.{Prefixes}
 use Rattle.packing.specs.Memory.{FreeUpTo}
 use Rattle.image_writer.specs.Image.{Planned}
 use Rattle.image_writer.specs.Planning.{usedUp, FirstPass, KeysPlanned, unordered, passed}
-use Rattle.writer.specs.List.{keysIn, fitting, over, wovenOver, PlannedFirst, FillRoom, FilledFirst, no-lift, too-many, at-most, not-written, written}
+use Rattle.writer.specs.List.{yesTo35, keysIn, fitting, over, wovenOver, PlannedFirst, FillRoom, FilledFirst, no-lift, too-many, at-most, not-written, written}
 use Rattle.writer.proofs.Job as job
 use Rattle.writer.proofs.Weaving.{keys-length, over-take, over-length, over-rest, in-pairs}
 

@@ -20,7 +20,8 @@ use Rattle.format.proofs.Exact.{write-is}
 use Rattle.writer.specs.declared.Written.{Written}
 use Rattle.writer.specs.declared.Written.the-variants.{Length, Refused}
 use Rattle.image_writer.specs.declared.Plan.{Plan}
-use Rattle.writer.specs.Outcomes.{WrittenKeys, yesTo35}
+use Rattle.writer.specs.Outcomes.{WrittenKeys}
+use Rattle.writer.specs.List.{yesTo35}
 use Rattle.packing.specs.Run.{Prefixes}
 use Rattle.image_writer.specs.Image.{countsOf, pagesIn, pagesFrom, bytesOfBand, bytesOfBands, Planned, ImageRoom}
 use Rattle.image_writer.specs.Planning.{usedUp, FirstPass, KeysPlanned, unordered, passed}

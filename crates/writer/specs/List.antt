@@ -7,10 +7,10 @@ use Prim.Native.Nat.{ℕ, _≤_, _<_}
 use lib.Dec.{ltb}
 use lib.ListN.{length, take, drop}
 use Rattle.format.specs.Key.{keyOf}
-use Rattle.format.specs.Question.{isLift}
+use Rattle.format.specs.Question.{Question, isLift}
 use Rattle.format.specs.declared.Admission.{Admission}
 use Rattle.writer.specs.declared.Written.{Written}
-use Rattle.writer.specs.Outcomes.{WrittenKeys, yesTo35}
+use Rattle.writer.specs.Outcomes.{WrittenKeys}
 use Rattle.packing.specs.Run.{Prefixes}
 use Rattle.packing.specs.Memory.{FreeUpTo}
 use Rattle.image_writer.specs.Image.{Planned}
@@ -18,7 +18,11 @@ use Rattle.image_writer.specs.Planning.{IsRefusal, KeysPlanned}
 use Rattle.image_writer.specs.declared.Plan.{Plan}
 use Rattle.writer.specs.declared.Written.the-variants.{Refused}
 
--- the keys of a list
+-- 35 has got a yes
+abbrev pub yesTo35 : Question
+yesTo35 = (35, true)
+
+-- the keys of a list: `woven (pairsIn list)`, in a form that the walks by hand compute with, as the next two
 abbrev pub keysIn : List Admission → List ℕ
 keysIn [] = []
 keysIn (a ∷ list) = keyOf (a .holder) (a .slot) ∷ keysIn list
@@ -28,7 +32,7 @@ abbrev pub pickNumber : Bool → ℕ → ℕ → ℕ
 pickNumber true a b = a
 pickNumber false a b = b
 
--- n, or none where there are only fewer places
+-- n, or 0 where there are fewer places than n
 abbrev pub fitting : ℕ → ℕ → ℕ
 fitting n places = pickNumber (ltb places n) 0 n
 
@@ -38,7 +42,7 @@ over [] places = places
 over (k ∷ keys) [] = []
 over (k ∷ keys) (x ∷ places) = k ∷ over keys places
 
--- the places after the first n of a list are woven into them: the keys of all of these, or of none where there are too many
+-- the keys of the first n of a list in the first places; of none of them where there are fewer places than n
 abbrev pub wovenOver : ℕ → List Admission → List ℕ → List ℕ
 wovenOver n list places = over (take (fitting n (length places)) (keysIn list)) places
 

@@ -1,7 +1,7 @@
 -- The writer's answers in the papers' terms, and what each job leaves in the lent buffer.
 -- Assumes nothing.
 use mathlib.Core.Path.{_≡_}
-use mathlib.Core.Bool.{true, cond}
+use mathlib.Core.Bool.{cond}
 use mathlib.Core.List.{List, map}
 use Prim.Native.Nat.{ℕ, _≤_, _<_}
 use lib.ListN.{take}
@@ -16,14 +16,10 @@ abbrev pub outcomeOf : Written → Outcome ℕ
 outcomeOf (Length n) = returns n
 outcomeOf (Refused n) = refused n
 
--- the answer and the buffer at exit, for the first question, which is one of the lift, a list of keys and the buffer as it was lent
+-- the answer and the buffer at exit, where `asked` is the first question, for a lift, a list of keys and the buffer as it was lent
 pub record WrittenKeys (asked : Question) (lift : ℕ) (keys buffer : List ℕ) (answer : Written) (buffer′ : List ℕ) : Type 0 where
   pub returned : outcomeOf answer ≡ writeKeys asked lift keys buffer
   pub bytes : buffer′ ≡ bufferAfterWriteKeys asked lift keys buffer
-
--- 35 has got a yes
-abbrev pub yesTo35 : Question
-yesTo35 = (35, true)
 
 -- the pairs of holder and slot that format's definitions speak of
 abbrev pub pairsIn : List Admission → List (ℕ × ℕ)

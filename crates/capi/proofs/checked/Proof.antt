@@ -5,7 +5,8 @@ use native.Mathlib.Omega.{arith}
 use Rattle.capi.proofs.Signed.{back-neg, back-pos}
 use Rattle.checker.specs.Outcomes.{outcomeOf}
 use Rattle.checker.specs.declared.Checked.{Checked}
-use Rattle.capi.specs.Encoding.{WithinCount, encoded}
+use Rattle.capi.specs.Encoding.{encoded}
+use Rattle.capi.specs.Small.{WithinCount}
 use borrow.Author.Needs.{needs}
 use Rattle.capi.proofs.checked.Statement.{statement}
 use Rattle.capi.proofs.checked.Tie as tie

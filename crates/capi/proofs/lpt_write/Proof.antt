@@ -39,7 +39,8 @@ use denote.Triple.Table.{entered, cited}
 use denote.Triple.Walked.{says, Stays, stay-none, stay-none-slice, gave-slice, walkOf, goes-none, goes-none-slice, goes-gave-slice, Walks, ends-at, walked, walk-meets}
 use denote.Triple.Clauses.{Lasts, ensured, lasts}
 use denote.Exit.{yes}
-use Rattle.capi.specs.Encoding.{WrittenToC, WithinBound, encoded}
+use Rattle.capi.specs.Encoding.{WrittenToC, encoded}
+use Rattle.capi.specs.Small.{WithinBound}
 use Rattle.capi.proofs.Length.{to-c, within}
 use Rattle.format.specs.declared.Admission.{Admission}
 use Rattle.format.proofs.Admission as T

@@ -5,7 +5,8 @@ use native.Mathlib.Omega.{arith}
 use Rattle.capi.proofs.Signed.{back-neg, back-pos}
 use Rattle.writer.specs.Outcomes.{outcomeOf}
 use Rattle.writer.specs.declared.Written.{Written}
-use Rattle.capi.specs.Encoding.{WithinBound, encoded}
+use Rattle.capi.specs.Encoding.{encoded}
+use Rattle.capi.specs.Small.{WithinBound}
 use borrow.Author.Needs.{needs}
 use Rattle.capi.proofs.written.Statement.{statement}
 use Rattle.capi.proofs.written.Tie as tie

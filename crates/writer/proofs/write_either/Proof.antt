@@ -4,7 +4,7 @@ use native.Mathlib.Omega.{arith}
 use borrow.Author.Tests.{le-leb, lt-leb}
 use borrow.Author.Needs.{needs}
 use Rattle.format.specs.Writer.{eitherQuestion}
-use Rattle.writer.specs.Outcomes.{yesTo35}
+use Rattle.writer.specs.List.{yesTo35}
 use Rattle.writer.proofs.Job.{no-35, asked-35, too-many}
 use Rattle.writer.proofs.write_either.Statement.{statement}
 use Rattle.writer.proofs.write_either.Tie as tie
