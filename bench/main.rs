@@ -18,6 +18,10 @@ struct Jobs {
     list: fn(&[u8], Rect, &mut [u32]) -> i64,
     find: fn(&[u8], u32) -> i64,
     scan: fn(&[u8], &mut [u32], u16, u16, u32, u32, u32) -> i64,
+    // compared, not timed
+    write_keys: fn(&[u32], u32, &mut [u8]) -> i64,
+    key: fn(u16, u16) -> i64,
+    admission_of: fn(u32) -> i64,
 }
 
 fn answer<T>(r: Result<T, reference::No>, f: impl Fn(T) -> i64) -> i64 {
@@ -46,7 +50,14 @@ fn hand_written() -> Jobs {
         list: |i, r, k| answer(reference::list(i, r, k), |x| x as i64),
         find: |i, r| answer(reference::find_by_rank(i, r), |(h, s)| (h as i64) << 16 | s as i64),
         scan: |i, rec, h, s, t, l, lift| answer(reference::scan(i, rec, h, s, t, l, lift), |x| x as i64),
+        write_keys: |k, lift, o| answer(reference::write(&admissions(k), lift, o), |x| x as i64),
+        key: |h, s| weave(h, s) as i64,
+        admission_of: |k| { let (h, s) = unweave(k); (h as i64) << 16 | s as i64 },
     }
+}
+
+fn admissions(keys: &[u32]) -> Vec<Admission> {
+    keys.iter().map(|&k| { let (holder, slot) = unweave(k); Admission { holder, slot } }).collect()
 }
 
 extern "C" {
@@ -58,6 +69,9 @@ extern "C" {
     fn lpt_list(img: *const u8, len: usize, h0: u16, h1: u16, s0: u16, s1: u16, keys: *mut u32, places: usize) -> i64;
     fn lpt_find(img: *const u8, len: usize, rank: u32) -> i64;
     fn lpt_scan(img: *const u8, len: usize, rec: *mut u32, rec_len: usize, holder: u16, slot: u16, time: u32, lockout: u32, lift: u32) -> i64;
+    fn lpt_write_keys(keys: *const u32, n: usize, lift: u32, out: *mut u8, out_len: usize) -> i64;
+    fn lpt_key(holder: u16, slot: u16) -> i64;
+    fn lpt_admission_of(key: u32) -> i64;
 }
 
 fn verified() -> Jobs {
@@ -71,6 +85,9 @@ fn verified() -> Jobs {
         list: |i, q, k| unsafe { lpt_list(i.as_ptr(), i.len(), q.h0, q.h1, q.s0, q.s1, k.as_mut_ptr(), k.len()) },
         find: |i, r| unsafe { lpt_find(i.as_ptr(), i.len(), r) },
         scan: |i, rec, h, s, t, l, lift| unsafe { lpt_scan(i.as_ptr(), i.len(), rec.as_mut_ptr(), rec.len(), h, s, t, l, lift) },
+        write_keys: |k, lift, o| unsafe { lpt_write_keys(k.as_ptr(), k.len(), lift, o.as_mut_ptr(), o.len()) },
+        key: |h, s| unsafe { lpt_key(h, s) },
+        admission_of: |k| unsafe { lpt_admission_of(k) },
     }
 }
 
@@ -129,7 +146,7 @@ fn data(name: &'static str, r: &mut Rng) -> Data {
         _ => set.extend(0..N as u32),
     }
     let keys: Vec<u32> = set.iter().copied().collect();
-    let list: Vec<Admission> = keys.iter().map(|&k| { let (holder, slot) = unweave(k); Admission { holder, slot } }).collect();
+    let list = admissions(&keys);
     let mut img = vec![0u8; MOST_BYTES];
     let n = reference::write(&list, LIFT, &mut img).unwrap();
     img.truncate(n);
@@ -190,7 +207,15 @@ fn compare(ds: &[Data], a: &Jobs, b: &Jobs) -> usize {
             let x = (a.write)(&list, lift, &mut oa[..short]);
             let y = (b.write)(&list, lift, &mut ob[..short]);
             assert!(x == y && oa == ob, "write {x} {y}");
-            n += 1;
+            // keys, now and then one of them twice
+            let mut keys: Vec<u32> = list.iter().map(|a| weave(a.holder, a.slot)).collect();
+            if round % 7 == 0 {
+                keys.push(keys[keys.len() - 1]);
+            }
+            let (mut ka, mut kb) = (vec![7u8; MOST_BYTES], vec![7u8; MOST_BYTES]);
+            let (u, v) = ((a.write_keys)(&keys, lift, &mut ka[..short]), (b.write_keys)(&keys, lift, &mut kb[..short]));
+            assert!(u == v && ka == kb, "write_keys {u} {v}");
+            n += 2;
             if x < 0 {
                 continue;
             }
@@ -216,6 +241,9 @@ fn compare(ds: &[Data], a: &Jobs, b: &Jobs) -> usize {
             n += 2;
             for i in 0..12u32 {
                 let k = if i % 2 == 0 { list[r.below(list.len() as u64) as usize] } else { let (holder, slot) = unweave(d.misses[r.below(1024) as usize]); Admission { holder, slot } };
+                let key = (a.key)(k.holder, k.slot);
+                assert_eq!(key, (b.key)(k.holder, k.slot), "key");
+                assert_eq!((a.admission_of)(key as u32), (b.admission_of)(key as u32), "admission_of");
                 let (mut p, mut q) = ([9u32; 9], [9u32; 9]);
                 let (x, y) = ((a.lookup)(&img, k.holder, k.slot, &mut p), (b.lookup)(&img, k.holder, k.slot, &mut q));
                 assert!((x, p) == (y, q), "lookup {x} {y}");
@@ -238,7 +266,7 @@ fn compare(ds: &[Data], a: &Jobs, b: &Jobs) -> usize {
                 let gate = if i % 5 == 4 { lift + 65536 * r.below(2) as u32 + r.below(2) as u32 } else { lift };
                 let (x, y) = ((a.scan)(&img, &mut u, k.holder, k.slot, t, l, gate), (b.scan)(&img, &mut v, k.holder, k.slot, t, l, gate));
                 assert!(x == y && u == v, "scan {x} {y}");
-                n += 5;
+                n += 7;
             }
         }
     }
