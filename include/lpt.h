@@ -89,7 +89,7 @@ typedef struct {
 /* Returns the key of a holder and a slot, below 2^32: their bits by turns, the holder's first. Refuses nothing. */
 int64_t lpt_key(uint16_t holder, uint16_t slot);
 
-/* Returns holder x 65,536 + slot of a key, as lpt_list fills them in. Refuses nothing. */
+/* Returns holder x 65,536 + slot of a key, such as lpt_list fills in. Refuses nothing. */
 int64_t lpt_admission_of(uint32_t key);
 
 /*
