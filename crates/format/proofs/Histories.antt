@@ -15,7 +15,7 @@ use Rattle.format.specs.Key.{keyOf}
 use Rattle.format.specs.Page.{Byte}
 use Rattle.format.specs.Image.{keyCount, keysOf}
 use Rattle.format.specs.Question.{Outcome, Question, Yes, imageQuestions, refused, returns, settle}
-use Rattle.format.specs.Scan.{opened, openingsPlace, recordsAfter, recordsAfterScan, scan, scanQuestions}
+use Rattle.format.specs.Scan.{gateQuestions, opened, openingsPlace, recordsAfter, recordsAfterScan, scan, scanQuestions}
 use Rattle.format.specs.History.{Card, Opening, afterCard, afterCards, openingOf, openings, recordAfter, scanOf}
 use Rattle.format.proofs.Lists.{all-left, all-right}
 use Rattle.format.proofs.Questions.{none-of-yes, yes-of-none}
@@ -42,15 +42,15 @@ rank-below (y ∷ ys) x h =
 
 -- what is known of an opening
 record Opened (img records : List ℕ) (rank : ℕ) : Type 0 where
-  rank-small : rank < openingsPlace img
-  size : length records ≡ openingsPlace img + 1
+  rank-small : rank < openingsPlace (keyCount img)
+  size : length records ≡ openingsPlace (keyCount img) + 1
 
 module _ (lift : ℕ) (img records : List ℕ) (key time lockout : ℕ) where
   questions : List Question
   questions = imageQuestions img ++ scanQuestions lift img records key time lockout
 
   opened-facts : (rank : ℕ) → All Byte img → settle questions (rankIn (keysOf img) key) ≡ returns rank → Opened img records rank
-  unfolding questions scanQuestions openingsPlace
+  unfolding questions scanQuestions gateQuestions openingsPlace
   opened-facts rank a e =
       let (none-no, same) = yes-of-returns questions (rankIn (keysOf img) key) rank e in
       let yes-all = yes-of-none questions none-no in
@@ -64,38 +64,38 @@ module _ (lift : ℕ) (img records : List ℕ) (key time lockout : ℕ) where
 -- ---- the records after an opening
 
 module _ (img records : List ℕ) (rank time : ℕ) (o : Opened img records rank) where
-  opened-size : length (opened img records rank time) ≡ length records
+  opened-size : length (opened (keyCount img) records rank time) ≡ length records
   unfolding opened
-  opened-size = length-set (set records rank (time + 1)) (openingsPlace img) (getD records (openingsPlace img) 0 + 1) ∙ length-set records rank (time + 1)
+  opened-size = length-set (set records rank (time + 1)) (openingsPlace (keyCount img)) (getD records (openingsPlace (keyCount img)) 0 + 1) ∙ length-set records rank (time + 1)
 
-  opened-rank : (r : ℕ) → r < openingsPlace img → getD (opened img records rank time) r 0 ≡ cond (eqb rank r) (time + 1) (getD records r 0)
+  opened-rank : (r : ℕ) → r < openingsPlace (keyCount img) → getD (opened (keyCount img) records rank time) r 0 ≡ cond (eqb rank r) (time + 1) (getD records r 0)
   unfolding opened
   opened-rank r h =
-      getD-set-other (set records rank (time + 1)) (openingsPlace img) r (getD records (openingsPlace img) 0 + 1) 0 (λ e. omega arith)
+      getD-set-other (set records rank (time + 1)) (openingsPlace (keyCount img)) r (getD records (openingsPlace (keyCount img)) 0 + 1) 0 (λ e. omega arith)
       ∙ elim (ℕ-discrete rank r) [
         | yes e ↦ ap (λ (q : ℕ). getD (set records q (time + 1)) r 0) e ∙ getD-set-same records r (time + 1) 0 (omega (arith, o .size)) ∙ sym (cond-yes (eqb rank r) _ _ (eq-eqb rank r e))
         | no e ↦ getD-set-other records rank r (time + 1) 0 (λ d. e (sym d)) ∙ sym (cond-no (eqb rank r) _ _ (ne-eqb rank r e))
       ]
 
-  opened-count : getD (opened img records rank time) (openingsPlace img) 0 ≡ getD records (openingsPlace img) 0 + 1
+  opened-count : getD (opened (keyCount img) records rank time) (openingsPlace (keyCount img)) 0 ≡ getD records (openingsPlace (keyCount img)) 0 + 1
   unfolding opened
   opened-count =
-      getD-set-same (set records rank (time + 1)) (openingsPlace img) (getD records (openingsPlace img) 0 + 1) 0 (omega (arith, length-set records rank (time + 1), o .size))
+      getD-set-same (set records rank (time + 1)) (openingsPlace (keyCount img)) (getD records (openingsPlace (keyCount img)) 0 + 1) 0 (omega (arith, length-set records rank (time + 1), o .size))
 
 -- ---- any history
 
 -- what a buffer holds after some openings from records: each rank's record, and the openings count
 pub record Recorded (img records : List ℕ) (os : List Opening) (after : List ℕ) : Type 0 where
   pub size : length after ≡ length records
-  pub ranks : (r : ℕ) → r < openingsPlace img → getD after r 0 ≡ recordAfter r (getD records r 0) os
-  pub count : getD after (openingsPlace img) 0 ≡ getD records (openingsPlace img) 0 + length os
+  pub ranks : (r : ℕ) → r < openingsPlace (keyCount img) → getD after r 0 ≡ recordAfter r (getD records r 0) os
+  pub count : getD after (openingsPlace (keyCount img)) 0 ≡ getD records (openingsPlace (keyCount img)) 0 + length os
 
 -- after one scan
 one-scan : (lift : ℕ) (img records : List ℕ) (card : Card) → All Byte img → Recorded img records (openingOf (scanOf lift img records card) (card .time)) (afterCard lift img records card)
 unfolding recordsAfterScan scan questions
 one-scan lift img records card a = go (scanOf lift img records card) (λ rank e. opened-facts lift img records (keyOf (card .holder) (card .slot)) (card .time) (card .lockout) rank a e)
   where
-    go : (o : Outcome ℕ) → ((rank : ℕ) → o ≡ returns rank → Opened img records rank) → Recorded img records (openingOf o (card .time)) (recordsAfter o img records (card .time))
+    go : (o : Outcome ℕ) → ((rank : ℕ) → o ≡ returns rank → Opened img records rank) → Recorded img records (openingOf o (card .time)) (recordsAfter o (keyCount img) records (card .time))
     go (refused n) f = unfold openingOf recordsAfter recordAfter in record { size = refl; ranks = λ r h. refl; count = omega arith }
     go (returns rank) f =
         unfold openingOf recordsAfter recordAfter in
@@ -152,7 +152,7 @@ unfolding recordAfter
 record-kept rank [] x n = refl
 record-kept rank (o ∷ os) x n = ap (λ (y : ℕ). recordAfter rank y os) (cond-no (eqb (o .0) rank) (o .1 + 1) x (ne-eqb (o .0) rank (n .0))) ∙ record-kept rank os x (n .1)
 
-pub lockout-not-restarted : (lift : ℕ) (img records : List ℕ) (cards : List Card) (rank : ℕ) → All Byte img → rank < openingsPlace img → NotAmong rank (openings lift img records cards)
+pub lockout-not-restarted : (lift : ℕ) (img records : List ℕ) (cards : List Card) (rank : ℕ) → All Byte img → rank < openingsPlace (keyCount img) → NotAmong rank (openings lift img records cards)
     → getD (afterCards lift img records cards) rank 0 ≡ getD records rank 0
 lockout-not-restarted lift img records cards rank a h none-opens =
     history lift img records cards a .ranks rank h ∙ record-kept rank (openings lift img records cards) (getD records rank 0) none-opens

@@ -14,43 +14,63 @@ use Rattle.format.specs.Question.{Question, Outcome, refused, returns, s
 unfoldable pub largest32 : ℕ
 largest32 = 4294967295
 
--- the place of the openings count: after the records of the ranks, the last element
-unfoldable pub openingsPlace : List ℕ → ℕ
-openingsPlace img = keyCount img
+-- ---- the questions, of an image with n keys
 
--- the record of a key: 0 for never, else the time of its last opening + 1
-unfoldable pub recordOf : List ℕ → List ℕ → ℕ → ℕ
-recordOf img records key = getD records (rankIn (keysOf img) key) 0
+-- the place of the openings count: after the records of the ranks, the last element
+unfoldable pub openingsPlace : ℕ → ℕ
+openingsPlace n = n
+
+-- 36 and 21 to 24: whether the lift fits, and whether the admission is listed, are handed in
+unfoldable pub gateQuestions : Bool → ℕ → List ℕ → Bool → ℕ → List Question
+gateQuestions fits n records listed time =
+    (36, fits)
+    ∷ (21, eqb (length records) (openingsPlace n + 1))
+    ∷ (22, ltb time largest32)
+    ∷ (23, ltb (getD records (openingsPlace n) 0) largest32)
+    ∷ (24, listed)
+    ∷ []
+
+-- 25 and 26, of a record: never opened, or the time is not before the last opening; never opened, or at least the lockout seconds since. They are about
+-- numbers, so that no sum overflows.
+unfoldable pub timeRight : ℕ → ℕ → Bool
+timeRight last time = isZero last || leb last (time + 1)
+
+unfoldable pub lockoutOver : ℕ → ℕ → ℕ → Bool
+lockoutOver last time lockout = isZero last || leb (last + lockout) (time + 1)
+
+unfoldable pub lockoutQuestions : ℕ → ℕ → ℕ → List Question
+lockoutQuestions last time lockout = (25, timeRight last time) ∷ (26, lockoutOver last time lockout) ∷ []
+
+-- ---- the job
 
 -- 36: the image names no lift, or the gate's
 unfoldable pub liftFits : ℕ → List ℕ → Bool
 liftFits lift img = isZero (liftOf img) || eqb (liftOf img) lift
 
--- 36 and 21 to 26, at a gate of that lift. 25 and 26 are about numbers, so that no sum overflows.
+-- the record of a key: 0 for never, else the time of its last opening + 1
+unfoldable pub recordOf : List ℕ → List ℕ → ℕ → ℕ
+recordOf img records key = getD records (rankIn (keysOf img) key) 0
+
+-- 36 and 21 to 26, at a gate of that lift
 unfoldable pub scanQuestions : ℕ → List ℕ → List ℕ → ℕ → ℕ → ℕ → List Question
 scanQuestions lift img records key time lockout =
-    (36, liftFits lift img)
-    ∷ (21, eqb (length records) (openingsPlace img + 1))
-    ∷ (22, ltb time largest32)
-    ∷ (23, ltb (getD records (openingsPlace img) 0) largest32)
-    ∷ (24, isIn key (keysOf img))
-    ∷ (25, isZero (recordOf img records key) || leb (recordOf img records key) (time + 1))
-    ∷ (26, isZero (recordOf img records key) || leb (recordOf img records key + lockout) (time + 1))
-    ∷ []
+    gateQuestions (liftFits lift img) (keyCount img) records (isIn key (keysOf img)) time ++ lockoutQuestions (recordOf img records key) time lockout
 
 -- 1 to 13, then 36 and 21 to 26; returns the rank
 unfoldable pub scan : ℕ → List ℕ → List ℕ → ℕ → ℕ → ℕ → ℕ → Outcome ℕ
 scan lift img records holder slot time lockout =
     settle (imageQuestions img ++ scanQuestions lift img records (keyOf holder slot) time lockout) (rankIn (keysOf img) (keyOf holder slot))
 
--- the records after an opening at a rank: time + 1 there, one more in the openings count, the other elements as they were
-unfoldable pub opened : List ℕ → List ℕ → ℕ → ℕ → List ℕ
-opened img records rank time = set (set records rank (time + 1)) (openingsPlace img) (getD records (openingsPlace img) 0 + 1)
+-- ---- the records at exit, of an image with n keys
 
--- the records after a scan with that outcome: as they were after a refusal
-unfoldable pub recordsAfter : Outcome ℕ → List ℕ → List ℕ → ℕ → List ℕ
-recordsAfter (refused n) img records time = records
-recordsAfter (returns rank) img records time = opened img records rank time
+-- after an opening at a rank: time + 1 there, one more in the openings count, the other elements as they were
+unfoldable pub opened : ℕ → List ℕ → ℕ → ℕ → List ℕ
+opened n records rank time = set (set records rank (time + 1)) (openingsPlace n) (getD records (openingsPlace n) 0 + 1)
+
+-- after a scan with that outcome: as they were after a refusal
+unfoldable pub recordsAfter : Outcome ℕ → ℕ → List ℕ → ℕ → List ℕ
+recordsAfter (refused number) n records time = records
+recordsAfter (returns rank) n records time = opened n records rank time
 
 unfoldable pub recordsAfterScan : ℕ → List ℕ → List ℕ → ℕ → ℕ → ℕ → ℕ → List ℕ
-recordsAfterScan lift img records holder slot time lockout = recordsAfter (scan lift img records holder slot time lockout) img records time
+recordsAfterScan lift img records holder slot time lockout = recordsAfter (scan lift img records holder slot time lockout) (keyCount img) records time

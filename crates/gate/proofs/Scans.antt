@@ -1,12 +1,12 @@
 -- The scan's answer and records, from lookup's answer and what 36 and 21 to 26 then say.
 -- Assumes nothing.
-use mathlib.Core.Path.{_≡_, refl, sym, ap, ap₂, _∙_}
+use mathlib.Core.Path.{_≡_, refl, sym, ap, _∙_}
 use mathlib.Core.Bool.{Bool, true, false, _||_, cond}
 use mathlib.Core.Option.{none, some}
 use mathlib.Core.List.{List, map}
-use Prim.Native.Nat.{ℕ, _+_, _≤_, _<_}
+use Prim.Native.Nat.{ℕ, zero, suc, _≤_, _<_}
 use native.Mathlib.Omega.{arith}
-use lib.Dec.{eqb, ltb}
+use lib.Dec.{eqb}
 use borrow.Author.Tests.{eq-eqb, ne-eqb}
 use lib.ListN.{length, getD}
 use Rattle.format.specs.Seq.{All, isIn, rankIn}
@@ -15,13 +15,14 @@ use Rattle.format.specs.Page.{Byte}
 use Rattle.format.specs.Image.{bands, keyCount, keysOf, liftOf}
 use Rattle.format.specs.Question.{Outcome, firstNo, imageQuestions, isZero, outcome, refused, returns, settle}
 use Rattle.format.specs.Answer.{LookupAnswer, absent, listed, lookup, lookupAnswer, pageOf}
-use Rattle.format.specs.Scan.{liftFits, opened, openingsPlace, recordOf, recordsAfter, recordsAfterScan, scan, scanQuestions, largest32}
-use Rattle.format.proofs.Questions.{after-no, after-yes}
+use Rattle.format.specs.Scan.{gateQuestions, liftFits, lockoutQuestions, recordOf, recordsAfter, recordsAfterScan, scan, scanQuestions}
+use Rattle.format.proofs.Questions.{after-no, after-yes, yes-of-none}
 use Rattle.format.proofs.Jobs.{no-of-refused, yes-of-returns}
 use Rattle.format.proofs.Checked.{checked}
 use Rattle.format.proofs.Back.{listed as list-facts}
 use Rattle.format.proofs.Histories.{rank-below}
-use Rattle.gate.specs.Gate.{gateQuestions, gateRecords, lockoutOver, timeRight}
+use Rattle.header.specs.Refusal.{refusalOf}
+use Rattle.gate.proofs.Admits.{none-of-zero}
 
 -- 36
 module _ (lift : ℕ) (img : List ℕ) (n : ℕ) (e : n ≡ liftOf img) where
@@ -33,108 +34,114 @@ module _ (lift : ℕ) (img : List ℕ) (n : ℕ) (e : n ≡ liftOf img) where
   unfolding liftFits isZero
   fits-own h = ap (λ (m : ℕ). eqb m lift) e ∙ sym (ap (_|| eqb (liftOf img) lift) (ne-eqb (liftOf img) 0 (λ z. h (e ∙ z))))
 
-module _ (lift : ℕ) (img records : List ℕ) (holder slot time lockout : ℕ) where
-  key : ℕ
+-- ---- what lookup's answer says
+
+module _ (img : List ℕ) (holder slot : ℕ) where
+  abbrev key : ℕ
   key = keyOf holder slot
 
-  -- the records, from the outcome
-  records-of : (o : Outcome ℕ) → o ≡ scan lift img records holder slot time lockout → gateRecords o (keyCount img) records time ≡ recordsAfterScan lift img records holder slot time lockout
-  unfolding recordsAfterScan
-  records-of o e = go o ∙ ap (λ (q : Outcome ℕ). recordsAfter q img records time) e
-    where
-      go : (q : Outcome ℕ) → gateRecords q (keyCount img) records time ≡ recordsAfter q img records time
-      go (refused n) = unfold gateRecords recordsAfter in refl
-      go (returns r) = unfold gateRecords recordsAfter opened openingsPlace in refl
-
-  abbrev pub Done : Outcome ℕ → List ℕ → Type 0
-  Done o after = (o ≡ scan lift img records holder slot time lockout) × (after ≡ recordsAfterScan lift img records holder slot time lockout)
-
-  -- a refused image
-  pub image-refused : (n : ℕ) → lookup img holder slot ≡ refused n → Done (refused n) records
-  unfolding lookup scan settle gateRecords
-  image-refused n e =
-      let first : firstNo (imageQuestions img) ≡ some n = no-of-refused (imageQuestions img) (lookupAnswer img (keyOf holder slot)) n e in
-      let o : refused n ≡ scan lift img records holder slot time lockout =
-      sym (ap (λ o. outcome o (rankIn (keysOf img) (keyOf holder slot))) (after-no (imageQuestions img) (scanQuestions lift img records (keyOf holder slot) time lockout) n first) ∙ (unfold outcome in refl)) in
-      (o, records-of (refused n) o)
+  abbrev rank-of : ℕ
+  rank-of = rankIn (keysOf img) key
 
   module _ (answer : LookupAnswer) (e : lookup img holder slot ≡ returns answer) where
     image-yes : firstNo (imageQuestions img) ≡ none
     unfolding lookup
-    image-yes = yes-of-returns (imageQuestions img) (lookupAnswer img (keyOf holder slot)) answer e .0
+    image-yes = yes-of-returns (imageQuestions img) (lookupAnswer img key) answer e .0
 
-    answer-is : lookupAnswer img (keyOf holder slot) ≡ answer
-    unfolding lookup
-    answer-is = yes-of-returns (imageQuestions img) (lookupAnswer img (keyOf holder slot)) answer e .1
+    answer-is : cond (isIn key (keysOf img)) (listed rank-of (map (pageOf img key) bands)) absent ≡ answer
+    unfolding lookup lookupAnswer
+    answer-is = yes-of-returns (imageQuestions img) (lookupAnswer img key) answer e .1
 
     pub header-long : 64 ≤ length img
     header-long = checked img image-yes .header .long
 
-    -- the scan's own questions
-    scan-is : scan lift img records holder slot time lockout
-        ≡ settle (gateQuestions (keyCount img) records (liftFits lift img) (isIn (keyOf holder slot) (keysOf img)) (rankIn (keysOf img) (keyOf holder slot)) time lockout) (rankIn (keysOf img) (keyOf holder slot))
-    unfolding scan settle scanQuestions gateQuestions openingsPlace recordOf timeRight lockoutOver largest32
-    scan-is = ap (λ o. outcome o (rankIn (keysOf img) (keyOf holder slot))) (after-yes (imageQuestions img) _ image-yes)
-
-  -- an admission that is not listed: 24 at the latest, whatever stands for its rank
-  not-listed : (n : ℕ) (f : Bool) (r a : ℕ) → settle (gateQuestions n records f false r time lockout) a ≡ settle (gateQuestions n records f false 0 time lockout) 0
-  unfolding settle gateQuestions firstNo
-  not-listed n f r a = go f (eqb (length records) (n + 1)) (ltb time 4294967295) (ltb (getD records n 0) 4294967295)
+  -- absent: not in the list
+  off : lookup img holder slot ≡ returns absent → isIn key (keysOf img) ≡ false
+  off e = go (isIn key (keysOf img)) (answer-is absent e)
     where
-      go : (s t u v : Bool)
-          → outcome (cond s (cond t (cond u (cond v (some 24) (some 23)) (some 22)) (some 21)) (some 36)) a
-          ≡ outcome (cond s (cond t (cond u (cond v (some 24) (some 23)) (some 22)) (some 21)) (some 36)) 0
-      go false t u v = unfold outcome in refl
-      go true false u v = unfold outcome in refl
-      go true true false v = unfold outcome in refl
-      go true true true false = unfold outcome in refl
-      go true true true true = unfold outcome in refl
+      go : (t : Bool) → cond t (listed rank-of (map (pageOf img key) bands)) absent ≡ absent → t ≡ false
+      go true d = absurd (let z : _≡_ {A = ℕ} 0 1 = cc in omega arith)
+      go false d = refl
 
-  is-listed : (t : Bool) (r : ℕ) (pages : List ℕ) (answer : LookupAnswer) → cond t (listed r pages) absent ≡ answer
-      → (answer ≡ absent → t ≡ false) × ((r′ : ℕ) (pages′ : List ℕ) → answer ≡ listed r′ pages′ → (t ≡ true) × (r ≡ r′))
-  is-listed true r pages answer e = (λ d. absurd (let z : _≡_ {A = ℕ} 0 1 = cc in omega arith), λ r′ pages′ d. (refl, cc))
-  is-listed false r pages answer e = (λ d. refl, λ r′ pages′ d. absurd (let z : _≡_ {A = ℕ} 0 1 = cc in omega arith))
-
-  -- absent
-  pub admitted-absent : (n : ℕ) (f : Bool) (o : Outcome ℕ) (after : List ℕ) → lookup img holder slot ≡ returns absent → n ≡ keyCount img → f ≡ liftFits lift img
-      → (o ≡ settle (gateQuestions n records f false 0 time lockout) 0) × (after ≡ gateRecords o n records time) → Done o after
-  unfolding lookupAnswer
-  admitted-absent n f o after e k l d =
-      let key = keyOf holder slot in
-      let off : isIn key (keysOf img) ≡ false = is-listed (isIn key (keysOf img)) (rankIn (keysOf img) key) (map (pageOf img key) bands) absent (answer-is absent e) .0 refl in
-      let s : o ≡ scan lift img records holder slot time lockout =
-      d .0
-      ∙ ap₂ (λ (m : ℕ) (t : Bool). settle (gateQuestions m records t false 0 time lockout) 0) k l
-      ∙ sym (not-listed (keyCount img) (liftFits lift img) (rankIn (keysOf img) key) (rankIn (keysOf img) key))
-      ∙ ap (λ (t : Bool). settle (gateQuestions (keyCount img) records (liftFits lift img) t (rankIn (keysOf img) key) time lockout) (rankIn (keysOf img) key)) (sym off)
-      ∙ sym (scan-is absent e) in
-      (s, d .1 ∙ ap (λ (m : ℕ). gateRecords o m records time) k ∙ records-of o s)
-
-  -- listed
+  -- listed: in the list, at its rank
   module _ (rank : ℕ) (pages : List ℕ) (e : lookup img holder slot ≡ returns (listed rank pages)) where
-    on : (isIn (keyOf holder slot) (keysOf img) ≡ true) × (rankIn (keysOf img) (keyOf holder slot) ≡ rank)
-    unfolding lookupAnswer
-    on =
-        is-listed (isIn (keyOf holder slot) (keysOf img)) (rankIn (keysOf img) (keyOf holder slot)) (map (pageOf img (keyOf holder slot)) bands) (listed rank pages) (answer-is (listed rank pages) e) .1 rank pages
-        refl
+    on : (isIn key (keysOf img) ≡ true) × (rank-of ≡ rank)
+    on = go (isIn key (keysOf img)) (answer-is (listed rank pages) e)
+      where
+        go : (t : Bool) → cond t (listed rank-of (map (pageOf img key) bands)) absent ≡ listed rank pages → (t ≡ true) × (rank-of ≡ rank)
+        go true d = (refl, cc)
+        go false d = absurd (let z : _≡_ {A = ℕ} 0 1 = cc in omega arith)
 
     pub rank-small : All Byte img → rank < keyCount img
-    rank-small a =
-        omega (
-          arith,
-          rank-below (keysOf img) (keyOf holder slot) (on .0),
-          on .1,
-          list-facts img a (checked img (image-yes (listed rank pages) e)) .keys .count-is,
-        )
+    rank-small a = omega (arith, rank-below (keysOf img) key (on .0), on .1, list-facts img a (checked img (image-yes (listed rank pages) e)) .keys .count-is)
 
-    pub admitted-listed : (n : ℕ) (f : Bool) (o : Outcome ℕ) (after : List ℕ) → n ≡ keyCount img → f ≡ liftFits lift img
-        → (o ≡ settle (gateQuestions n records f true rank time lockout) rank) × (after ≡ gateRecords o n records time) → Done o after
-    admitted-listed n f o after k l d =
-        let key = keyOf holder slot in
-        let s : o ≡ scan lift img records holder slot time lockout =
-        d .0
-        ∙ ap₂ (λ (m : ℕ) (t : Bool). settle (gateQuestions m records t true rank time lockout) rank) k l
-        ∙ ap (λ (r : ℕ). settle (gateQuestions (keyCount img) records (liftFits lift img) true r time lockout) r) (sym (on .1))
-        ∙ ap (λ (t : Bool). settle (gateQuestions (keyCount img) records (liftFits lift img) t (rankIn (keysOf img) key) time lockout) (rankIn (keysOf img) key)) (sym (on .0))
-        ∙ sym (scan-is (listed rank pages) e) in
-        (s, d .1 ∙ ap (λ (m : ℕ). gateRecords o m records time) k ∙ records-of o s)
+-- ---- the scan
+
+module _ (lift : ℕ) (img records : List ℕ) (holder slot time lockout : ℕ) where
+  abbrev own-key : ℕ
+  own-key = key img holder slot
+
+  abbrev own-rank : ℕ
+  own-rank = rank-of img holder slot
+
+  abbrev pub Done : Outcome ℕ → List ℕ → Type 0
+  Done o after = (o ≡ scan lift img records holder slot time lockout) × (after ≡ recordsAfterScan lift img records holder slot time lockout)
+
+  -- the records, from the outcome
+  done : (o : Outcome ℕ) → o ≡ scan lift img records holder slot time lockout → Done o (recordsAfter o (keyCount img) records time)
+  unfolding recordsAfterScan
+  done o e = (e, ap (λ (q : Outcome ℕ). recordsAfter q (keyCount img) records time) e)
+
+  -- a refused image
+  pub image-refused : (n : ℕ) → lookup img holder slot ≡ refused n → Done (refused n) records
+  unfolding lookup scan settle outcome recordsAfter
+  image-refused n e =
+      let first : firstNo (imageQuestions img) ≡ some n = no-of-refused (imageQuestions img) (lookupAnswer img own-key) n e in
+      done (refused n) (sym (ap (λ o. outcome o own-rank) (after-no (imageQuestions img) (scanQuestions lift img records own-key time lockout) n first)))
+
+  -- an accepted image, and 36 and 21 to 24 with the numbers that the code holds
+  module _ (answer : LookupAnswer) (e : lookup img holder slot ≡ returns answer) (n : ℕ) (f t : Bool) (k : n ≡ keyCount img) (l : f ≡ liftFits lift img) (is-in : isIn own-key (keysOf img) ≡ t) (refusal : ℕ)
+      (first : refusalOf refusal ≡ firstNo (gateQuestions f n records t time)) where
+    scan-is : scan lift img records holder slot time lockout ≡ settle (scanQuestions lift img records own-key time lockout) own-rank
+    unfolding scan settle
+    scan-is = ap (λ o. outcome o own-rank) (after-yes (imageQuestions img) _ (image-yes img holder slot answer e))
+
+    asked : firstNo (gateQuestions (liftFits lift img) (keyCount img) records (isIn own-key (keysOf img)) time) ≡ refusalOf refusal
+    asked = (λ i. firstNo (gateQuestions (sym l i) (sym k i) records (is-in i) time)) ∙ sym first
+
+    -- one of them gets a no
+    refused-first : (refusal ≡ 0 → ⊥) → Done (refused refusal) records
+    unfolding scanQuestions settle outcome recordsAfter
+    refused-first some-no =
+        done (refused refusal) (sym (scan-is ∙ ap (λ o. outcome o own-rank) (after-no _ (lockoutQuestions (recordOf img records own-key) time lockout) refusal (asked ∙ go refusal some-no))))
+      where
+        go : (r : ℕ) → (r ≡ 0 → ⊥) → refusalOf r ≡ some r
+        go zero ne = absurd (ne refl)
+        go (suc r) ne = unfold refusalOf in refl
+
+    -- none does, and 25 and 26 decide
+    passed-first : refusal ≡ 0 → scan lift img records holder slot time lockout ≡ settle (lockoutQuestions (recordOf img records own-key) time lockout) own-rank
+    unfolding scanQuestions settle
+    passed-first z = scan-is ∙ ap (λ o. outcome o own-rank) (after-yes _ (lockoutQuestions (recordOf img records own-key) time lockout) (none-of-zero (sym asked) z))
+
+  -- an admission that is not listed: 24 at the latest
+  pub scanned-absent : (n refusal : ℕ) (f : Bool) → lookup img holder slot ≡ returns absent → n ≡ keyCount img → f ≡ liftFits lift img → refusalOf refusal ≡ firstNo (gateQuestions f n records false time)
+      → Done (refused refusal) records
+  unfolding gateQuestions
+  scanned-absent n refusal f e k l first =
+      refused-first absent e n f false k l (off img holder slot e) refusal first (λ z. let absent-in : false ≡ true = yes-of-none _ (none-of-zero first z) .1 .1 .1 .1 .0 in let w : _≡_ {A = ℕ} 0 1 = cc in omega arith)
+
+  -- a listed one
+  module _ (rank : ℕ) (pages : List ℕ) (e : lookup img holder slot ≡ returns (listed rank pages)) (n refusal : ℕ) (f : Bool) (k : n ≡ keyCount img) (l : f ≡ liftFits lift img)
+      (first : refusalOf refusal ≡ firstNo (gateQuestions f n records true time)) where
+    -- 36 and 21 to 24
+    pub scanned-no : (refusal ≡ 0 → ⊥) → Done (refused refusal) records
+    scanned-no = refused-first (listed rank pages) e n f true k l (on img holder slot rank pages e .0) refusal first
+
+    -- 25 and 26, of the rank's record
+    pub scanned-yes : refusal ≡ 0 → (o : Outcome ℕ) (after : List ℕ) → (o ≡ settle (lockoutQuestions (getD records rank 0) time lockout) rank) × (after ≡ recordsAfter o n records time) → Done o after
+    unfolding recordOf
+    scanned-yes z o after d =
+        let own : rank ≡ own-rank = sym (on img holder slot rank pages e .1) in
+        let all = done o (d .0 ∙ (λ i. settle (lockoutQuestions (getD records (own i) 0) time lockout) (own i)) ∙ sym (passed-first (listed rank pages) e n f true k l (on img holder slot rank pages e .0) refusal first z)) in
+        (all .0, d .1 ∙ ap (λ (m : ℕ). recordsAfter o m records time) k ∙ all .1)

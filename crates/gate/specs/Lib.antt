@@ -1,6 +1,3 @@
--- The gate's scan: its answer in the papers' terms, and what its inner function decides.
+-- The gate's scan: its answer in the papers' terms.
 
--- the answer in the papers' terms
 pub mod Outcomes
--- 36 and 21 to 26, and the records after them
-pub mod Gate

@@ -2,12 +2,13 @@
 use query::Presence;
 ghost use mathlib.Core.Path.{_≡_};
 ghost use mathlib.Core.Bool.{true};
+ghost use mathlib.Core.Option.{none};
 ghost use Prim.Native.Nat.{_≤_, _<_};
 ghost use lib.ListN.{length};
-ghost use Rattle.format.specs.Question.{settle};
+ghost use Rattle.format.specs.Question.{firstNo, settle};
 ghost use Rattle.format.specs.Scan;
+ghost use Rattle.header.specs.Refusal.{refusalOf};
 ghost use Rattle.gate.specs.Outcomes.{outcomeOf};
-ghost use Rattle.gate.specs.Gate.{gateQuestions, gateRecords, timeRight, lockoutOver};
 
 // What a scan gets.
 pub enum Scanned {
@@ -31,7 +32,7 @@ fn lift_fits(image: &[u8], lift: u32) -> bool
 
 // 25: never opened, or the time is not before the last opening. The sums are wider than 32 bits, so that none wraps.
 fn time_right(last: u32, time: u32) -> bool
-    ensures { λ r. ⌜ r ≡ timeRight last time ⌝ }
+    ensures { λ r. ⌜ r ≡ Scan.timeRight last time ⌝ }
 {
     if last == 0 {
         return true;
@@ -41,7 +42,7 @@ fn time_right(last: u32, time: u32) -> bool
 
 // 26: never opened, or at least the lockout seconds since.
 fn lockout_over(last: u32, time: u32, lockout: u32) -> bool
-    ensures { λ r. ⌜ r ≡ lockoutOver last time lockout ⌝ }
+    ensures { λ r. ⌜ r ≡ Scan.lockoutOver last time lockout ⌝ }
 {
     if last == 0 {
         return true;
@@ -49,44 +50,40 @@ fn lockout_over(last: u32, time: u32, lockout: u32) -> bool
     last as u64 + lockout as u64 <= time as u64 + 1
 }
 
-// 36 and 21 to 26, of an image with `keys` keys, whose lift fits or not, and an admission that is listed at `rank`, or not listed; and the opening.
-fn admit(
-    records: &mut [u32],
-    keys: usize,
-    fits: bool,
-    listed: bool,
-    rank: u32,
-    time: u32,
-    lockout: u32,
-) -> Scanned
-    requires { ⌜ (keys < 65536) × (listed ≡ true → rank < keys) ⌝ }
-    ensures { λ r. ⌜ (outcomeOf r ≡ settle (gateQuestions keys (now (records .entry)) fits listed rank time lockout) rank) × (now (records .exit) ≡ gateRecords (outcomeOf r) keys (now (records .entry)) time) ⌝ }
+// 36 and 21 to 24, of an image with `keys` keys: the number of the first that gets a no, 0 where none does.
+fn gate_refusal(records: &[u32], keys: usize, fits: bool, listed: bool, time: u32) -> u8
+    requires { ⌜ keys < 65536 ⌝ }
+    ensures { λ r. ⌜ refusalOf r ≡ firstNo (Scan.gateQuestions fits keys (now (records .entry)) listed time) ⌝ }
 {
     let long = records.len() == keys + 1;
     if !fits {
-        return Scanned::Refused(36);
+        return 36;
     }
     if !long {
-        return Scanned::Refused(21);
+        return 21;
     }
     if time == 4294967295 {
-        return Scanned::Refused(22);
+        return 22;
     }
-    let openings = records[keys];
-    if openings == 4294967295 {
-        return Scanned::Refused(23);
+    if records[keys] == 4294967295 {
+        return 23;
     }
-    if !listed {
-        return Scanned::Refused(24);
-    }
+    if listed { 0 } else { 24 }
+}
+
+// 25 and 26, of the record `last`, where 36 and 21 to 24 got a yes; and the opening of the admission at `rank`.
+fn admit(records: &mut [u32], keys: usize, rank: u32, last: u32, time: u32, lockout: u32) -> Scanned
+    requires { ⌜ (keys < 65536) × (rank < keys) × (firstNo (Scan.gateQuestions true keys (now records) true time) ≡ none) ⌝ }
+    ensures { λ r. ⌜ (outcomeOf r ≡ settle (Scan.lockoutQuestions last time lockout) rank) × (now (records .exit) ≡ Scan.recordsAfter (outcomeOf r) keys (now (records .entry)) time) ⌝ }
+{
     let place = rank as usize;
-    let last = records[place];
     if !time_right(last, time) {
         return Scanned::Refused(25);
     }
     if !lockout_over(last, time, lockout) {
         return Scanned::Refused(26);
     }
+    let openings = records[keys];
     records[place] = time + 1;
     records[keys] = openings + 1;
     Scanned::Opened(rank)
@@ -112,26 +109,20 @@ pub fn scan(
             return Scanned::Refused(n);
         }
         Presence::Absent => {
-            return admit(
-                records,
-                header::key_count(image),
-                lift_fits(image, lift),
-                false,
-                0,
-                time,
-                lockout,
-            );
+            let keys = header::key_count(image);
+            let fits = lift_fits(image, lift);
+            return Scanned::Refused(gate_refusal(records, keys, fits, false, time));
         }
         Presence::Listed(rank) => {
-            return admit(
-                records,
-                header::key_count(image),
-                lift_fits(image, lift),
-                true,
-                rank,
-                time,
-                lockout,
-            );
+            let keys = header::key_count(image);
+            let fits = lift_fits(image, lift);
+            let refusal = gate_refusal(records, keys, fits, true, time);
+            if refusal != 0 {
+                return Scanned::Refused(refusal);
+            }
+            let place = rank as usize;
+            let last = records[place];
+            return admit(records, keys, rank, last, time, lockout);
         }
     }
 }

@@ -1,86 +1,90 @@
 -- `gate::scan` meets its contract. Assumes nothing.
 use mathlib.Core.Path.{_≡_, sym, ap, _∙_}
-use Prim.Native.Nat.{ℕ}
+use mathlib.Core.Bool.{true}
+use mathlib.Core.Option.{none}
+use Prim.Native.Nat.{_<_}
 use native.Mathlib.Omega.{arith}
 use borrow.Author.Needs.{needs}
+use Rattle.format.specs.Image.{keyCount}
+use Rattle.format.specs.Question.{firstNo, returns as answers}
+use Rattle.format.specs.Answer.{LookupAnswer, absent, listed, lookup}
+use Rattle.format.specs.Scan.{gateQuestions}
 use Rattle.query.specs.Outcomes.{lookupOutcome}
 use Rattle.nodes.proofs.Numbers.{bytes-of}
-use Rattle.gate.proofs.Scans.{admitted-absent, admitted-listed, header-long, image-refused, rank-small}
+use Rattle.gate.proofs.Admits.{lift-yes, none-of-zero, records-fit}
+use Rattle.gate.proofs.Scans.{header-long, image-refused, rank-small, scanned-absent, scanned-no, scanned-yes}
 use Rattle.gate.proofs.scan.Statement.{statement}
 use Rattle.gate.proofs.scan.Tie as tie
 
+-- what lookup answered
+abbrev Answered : tie.After-lookup → LookupAnswer → Type 0
+Answered l answer = lookup (l .before .before .before .args .image .now) (l .before .before .before .args .holder) (l .before .before .before .args .slot) ≡ answers answer
+
+-- ---- a refused image
+
 returns : tie.Need-returns
 unfolding lookupOutcome
-returns c =
-    let l = c .before .before .before in
-    let a = l .before .before .before .args in
-    image-refused (a .lift) (a .image .now) (a .records .now) (a .holder) (a .slot) (a .time) (a .lockout) _
-    (sym (l .lookup .ensures .0) ∙ ap (λ q. lookupOutcome q (l .lookup .result .pages)) (c .before .answer .given .1))
+returns c = let l = c .before .before .before in image-refused _ _ _ _ _ _ _ _ (sym (l .lookup .ensures .0) ∙ ap (λ q. lookupOutcome q (l .lookup .result .pages)) (c .before .answer .given .1))
+
+-- ---- an admission that is not listed
+
+is-absent : (c : tie.After-enum-told) → Answered (c .before .before) absent
+unfolding lookupOutcome
+is-absent c = let l = c .before .before in sym (l .lookup .ensures .0) ∙ ap (λ q. lookupOutcome q (l .lookup .result .pages)) (c .enum-told .given .1)
 
 key-count-requires : tie.Need-key-count-requires
-unfolding lookupOutcome
-key-count-requires c κs =
-    let l = c .before .before .before in
-    let a = l .before .before .before .args in
-    header-long (a .lift) (a .image .now) (a .records .now) (a .holder) (a .slot) (a .time) (a .lockout) _ (sym (l .lookup .ensures .0) ∙ ap (λ q. lookupOutcome q (l .lookup .result .pages)) (c .before .enum-told .given .1))
+key-count-requires c κs = header-long _ _ _ _ (is-absent c)
 
 lift-fits-requires : tie.Need-lift-fits-requires
-unfolding lookupOutcome
-lift-fits-requires c κs =
-    let l = c .before .before .before .before in
-    let a = l .before .before .before .args in
-    header-long (a .lift) (a .image .now) (a .records .now) (a .holder) (a .slot) (a .time) (a .lockout) _ (sym (l .lookup .ensures .0) ∙ ap (λ q. lookupOutcome q (l .lookup .result .pages)) (c .before .before .enum-told .given .1))
-
-admit-requires : tie.Need-admit-requires
-admit-requires c κs = (c .before .key-count .ensures .1, λ e. absurd (let z : _≡_ {A = ℕ} 0 1 = cc in omega arith))
+lift-fits-requires c κs = header-long _ _ _ _ (is-absent (c .before))
 
 returns-2 : tie.Need-returns-2
-unfolding lookupOutcome
 returns-2 c =
-    let l = c .before .before .before .before .before .before .before .before in
-    let a = l .before .before .before .args in
-    admitted-absent (a .lift) (a .image .now) (a .records .now) (a .holder) (a .slot) (a .time) (a .lockout) _ _ _ _ (sym (l .lookup .ensures .0) ∙ ap (λ q. lookupOutcome q (l .lookup .result .pages)) (c .before .before .before .before .before .before .enum-told .given .1))
-    (c .before .before .before .before .key-count .ensures .0) (c .before .before .before .lift-fits .ensures) (c .before .before .admit .ensures)
+    let k = c .before .before .before in
+    scanned-absent _ _ _ _ _ _ _ _ _ _ (is-absent (k .before)) (k .key-count .ensures .0) (c .before .before .lift-fits .ensures) (c .gate-refusal .ensures)
+
+-- ---- a listed one
+
+is-listed : (c : tie.After-known-told2) → Answered (c .before .before .before) (listed (c .before .answer2 .given .0 .0) (c .before .before .before .lookup .result .pages))
+unfolding lookupOutcome
+is-listed c = let l = c .before .before .before in sym (l .lookup .ensures .0) ∙ ap (λ q. lookupOutcome q (l .lookup .result .pages)) (c .before .answer2 .given .1)
 
 key-count-requires-2 : tie.Need-key-count-requires-2
-unfolding lookupOutcome
-key-count-requires-2 c κs =
-    let l = c .before .before .before .before in
-    let a = l .before .before .before .args in
-    header-long (a .lift) (a .image .now) (a .records .now) (a .holder) (a .slot) (a .time) (a .lockout) _ (sym (l .lookup .ensures .0) ∙ ap (λ q. lookupOutcome q (l .lookup .result .pages)) (c .before .before .answer2 .given .1))
+key-count-requires-2 c κs = header-long _ _ _ _ (is-listed c)
 
 lift-fits-requires-2 : tie.Need-lift-fits-requires-2
-unfolding lookupOutcome
-lift-fits-requires-2 c κs =
-    let l = c .before .before .before .before .before in
-    let a = l .before .before .before .args in
-    header-long (a .lift) (a .image .now) (a .records .now) (a .holder) (a .slot) (a .time) (a .lockout) _ (sym (l .lookup .ensures .0) ∙ ap (λ q. lookupOutcome q (l .lookup .result .pages)) (c .before .before .before .answer2 .given .1))
-
-admit-requires-2 : tie.Need-admit-requires-2
-unfolding lookupOutcome
-admit-requires-2 c κs =
-    let l = c .before .before .before .before .before .before in
-    let a = l .before .before .before .args in (
-      c .before .key-count2 .ensures .1,
-      λ e.
-          omega (
-            arith,
-            c .before .key-count2 .ensures .0,
-            rank-small (a .lift) (a .image .now) (a .records .now) (a .holder) (a .slot) (a .time) (a .lockout) _ _ (sym (l .lookup .ensures .0) ∙ ap (λ q. lookupOutcome q (l .lookup .result .pages)) (c .before .before .before .before .answer2 .given .1))
-                (bytes-of (a .image .now) (λ i. l .before .before .shared-slice-known .given i .fits)),
-          ),
-    )
+lift-fits-requires-2 c κs = header-long _ _ _ _ (is-listed (c .before))
 
 returns-3 : tie.Need-returns-3
-unfolding lookupOutcome
 returns-3 c =
-    let l = c .before .before .before .before .before .before .before .before .before in
-    let a = l .before .before .before .args in
-    admitted-listed (a .lift) (a .image .now) (a .records .now) (a .holder) (a .slot) (a .time) (a .lockout) _ _ (sym (l .lookup .ensures .0) ∙ ap (λ q. lookupOutcome q (l .lookup .result .pages)) (c .before .before .before .before .before .before .before .answer2 .given .1)) _ _ _ _
-    (c .before .before .before .before .key-count2 .ensures .0) (c .before .before .before .lift-fits2 .ensures) (c .before .before .admit2 .ensures)
+    let k = c .before .before .before .before in
+    scanned-no _ _ _ _ _ _ _ _ _ (is-listed (k .before)) _ _ _ (k .key-count2 .ensures .0) (c .before .before .before .lift-fits2 .ensures) (c .before .gate-refusal2 .ensures) (c .if1 .taken)
+
+-- its rank is below the key count
+below : (k : tie.After-key-count2) → k .before .before .answer2 .given .0 .0 < k .key-count2 .result
+below k =
+    let l = k .before .before .before .before in
+    let s = l .before .before .before in
+    omega (arith, k .key-count2 .ensures .0, rank-small _ _ _ _ _ (is-listed (k .before)) (bytes-of (s .args .image .now) (λ i. l .before .before .shared-slice-known .given i .fits)))
+
+-- 36 and 21 to 24 got a yes
+passed : (c : tie.Else1) → firstNo (gateQuestions true (c .before .before .before .before .key-count2 .result) (c .before .before .before .before .before .before .before .before .before .before .before .args .records .now) true (c .before .before .before .before .before .before .before .before .before .before .before .args .time)) ≡ none
+passed c = lift-yes _ _ _ _ _ (none-of-zero (c .before .gate-refusal2 .ensures) (c .if1 .left))
+
+slice-read-last : tie.Need-slice-read-last
+slice-read-last c = omega (arith, below (c .before .before .before .before .before), records-fit _ _ _ _ _ (passed (c .before)) .size)
+
+admit-requires : tie.Need-admit-requires
+admit-requires c κs = let k = c .before .before .before .before .before .before in (k .key-count2 .ensures .1, below k, passed (c .before .before))
+
+returns-4 : tie.Need-returns-4
+returns-4 c =
+    let g = c .before .before .before .before .before .before in
+    let k = g .before .before .before in
+    scanned-yes _ _ _ _ _ _ _ _ _ (is-listed (k .before)) _ _ _ (k .key-count2 .ensures .0) (g .before .before .lift-fits2 .ensures) (g .gate-refusal2 .ensures) (c .before .before .before .before .before .if1 .left) _ _ (c .before .before .admit .ensures)
 
 pub scan-spec : {M : Type 1} → statement M
 scan-spec =
     tie.close
-    (tie.spec (λ c κs. search needs) (λ c. search needs) returns (λ c. search needs) key-count-requires lift-fits-requires admit-requires (λ c. search needs) returns-2 (λ c. search needs) key-count-requires-2 lift-fits-requires-2 admit-requires-2
-    (λ c. search needs) returns-3)
+    (tie.spec (λ c κs. search needs) (λ c. search needs) returns (λ c. search needs) key-count-requires lift-fits-requires (λ c κs. search needs) (λ c. search needs) returns-2 (λ c. search needs)
+    key-count-requires-2 lift-fits-requires-2 (λ c κs. search needs) (λ c. search needs) returns-3 (λ c. search needs) (λ c. search needs) slice-read-last admit-requires (λ c. search needs) returns-4)
