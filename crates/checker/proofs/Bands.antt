@@ -9,20 +9,20 @@ use native.Mathlib.Decide.{ℕ-discrete}
 use native.Mathlib.Numerals.{add-one}
 use native.Mathlib.Omega.{arith}
 use borrow.Author.Tests.{eq-eqb, ne-eqb, lt-ltb, eqb-true}
-use lib.Dec.{eqb, leb, ltb}
-use lib.ListN.{length, getD, drop}
-use Rattle.format.specs.Seq.{every, total, upTo, numbersFrom}
+use lib.Dec.{eqb, ltb}
+use lib.ListN.{length, getD}
+use Rattle.format.specs.Seq.{total, upTo, numbersFrom}
 use Rattle.format.specs.Trie.{onBits}
 use Rattle.format.specs.Page.{firstSubtries, levelsIn, nodeCount, numberAt}
 use Rattle.format.specs.Image.{nextT, outLinkCount, pageB, pageCount, pageLevels, pageNodes, pageNumber, pagePairs, pageRoots, pageT, pagesBefore, rootCount}
-use Rattle.format.specs.Question.{Question, bandQuestions, firstNo, headRight, isPositive, isZero, outLinksDue, pageNeeded, pageQuestions}
+use Rattle.format.specs.Question.{Question, bandQuestions, firstNo, headRight, isZero, noRoom, outLinksDue, pageNeeded, pageQuestions}
 use Rattle.format.proofs.Checked.{cond-yes}
 use Rattle.format.proofs.Lists.{and-left, and-right, numbers-split, total-append}
 use Rattle.format.proofs.Read.{pages-within}
 use Rattle.format.proofs.Questions.{after-no, after-yes, asked-no, asked-yes, next-turn, no-at-turn, yes-of-none}
 use Rattle.checker.specs.declared.page.Shape.{Shape}
 use Rattle.header.specs.Refusal.{refusalOf}
-use Rattle.checker.specs.Paged.{shapeQuestions, questionsAt, PageAsked, BandAt}
+use Rattle.checker.specs.Paged.{questionsAfter, questionsAt, PageAsked, BandAt}
 
 -- ---- what the pages before page i of band b ask of its T and B, and the nodes of the page before it: 241 before a band's first page
 
@@ -53,26 +53,15 @@ module _ (img : List ℕ) (b : ℕ) where
   head-is zero h = refl
   head-is (suc i) h = sym (ap (_&& eqb (pageB img b (suc i)) (bDue img b (suc i))) (eq-eqb (pageT img b (suc i)) (nextT img b i) (t-next i h)))
 
-  needed-is : (i : ℕ) → pageNeeded img b i ≡ ltb 240 (nodeCount 1 (firstSubtries 1 (pageLevels img b i)) + nodesDue img b i)
-  unfolding pageNeeded
+  needed-is : (i : ℕ) → pageNeeded img b i ≡ noRoom (nodesDue img b i) (pageLevels img b i)
+  unfolding pageNeeded noRoom
   needed-is zero = sym (lt-ltb 240 (nodeCount 1 (firstSubtries 1 (pageLevels img b 0)) + 241) (omega arith))
   needed-is (suc i) = refl
 
   -- with the T that is due, the questions are the same
   same-questions : (i : ℕ) → i < pageCount img b → pageT img b i ≡ tDue img b i → pageQuestions img b i ≡ placed img b i
-  unfolding pageQuestions questionsAt shapeQuestions pageT pageB pagePairs pageNodes pageLevels pageRoots
-  same-questions i h e =
-      let ps : List ℕ = pagePairs img b i in
-      let r : pageRoots img b i ≡ nextT img b i - tDue img b i = ap (nextT img b i -_) e in
-      let twelve : pageNeeded img b i ≡ ltb 240 (nodeCount 1 (firstSubtries 1 (levelsIn 4 (nextT img b i - tDue img b i) ps)) + nodesDue img b i) =
-      needed-is i ∙ ap (λ (n : ℕ). ltb 240 (nodeCount 1 (firstSubtries 1 (levelsIn 4 n ps)) + nodesDue img b i)) r in
-      λ j.
-      (8, head-is i h j)
-      ∷ (9, leb 1 (r j) && leb (r j) 60)
-      ∷ (10, leb (nodeCount (r j) (levelsIn 4 (r j) ps)) 240 && every (every isPositive) (levelsIn 4 (r j) ps))
-      ∷ (11, every isZero (drop (nodeCount (r j) (levelsIn 4 (r j) ps)) ps))
-      ∷ (12, twelve j)
-      ∷ []
+  unfolding pageQuestions questionsAt questionsAfter pageT pageB pagePairs pageLevels pageRoots
+  same-questions i h e = rw (head-is i h, needed-is i, e)
 
   page-first : (i : ℕ) → i < pageCount img b → firstNo (pageQuestions img b i) ≡ firstNo (placed img b i)
   page-first i h = elim (ℕ-discrete (pageT img b i) (tDue img b i)) [

@@ -7,13 +7,12 @@ use Prim.Native.Nat.{ℕ, zero, suc, _+_, _-_, _≤_, _<_}
 use native.Mathlib.Omega.{arith}
 use borrow.Author.Tests.{eq-eqb, ne-eqb, le-leb, lt-leb}
 use lib.Dec.{eqb, leb}
-use lib.ListN.{drop}
 use Rattle.format.specs.Page.{numberAt}
-use Rattle.format.specs.Question.{Question, firstNo}
+use Rattle.format.specs.Question.{Question, firstNo, nodeQuestions}
 use Rattle.format.proofs.Questions.{after-no, after-yes, asked-no, asked-yes}
 use Rattle.checker.specs.declared.page.Shape.{Shape}
 use Rattle.header.specs.Refusal.{refusalOf}
-use Rattle.checker.specs.Paged.{pairsAt, shapeQuestions, questionsAt, Shaped, PageAsked}
+use Rattle.checker.specs.Paged.{pairsAt, questionsAfter, questionsAt, Shaped, PageAsked}
 
 -- ---- the number of the first no
 
@@ -52,22 +51,17 @@ module _ (img : List ℕ) (at t b next previous : ℕ) where
       wrong-b h = sym (asked-no 8 _ _ (ap₂ _&&_ (eq-eqb (numberAt img at) t (sym ex ∙ right-t)) (ne-eqb (numberAt img (at + 2)) b (λ e. h (ey ∙ e)))))
 
       module _ (right-b : y ≡ b) where
-        past-8 : firstNo (questionsAt img at t b next previous) ≡ firstNo (drop 1 (questionsAt img at t b next previous))
+        past-8 : firstNo (questionsAt img at t b next previous) ≡ firstNo (questionsAfter previous (next - t) (pairsAt img at))
         unfolding questionsAt
         past-8 = asked-yes 8 _ _ (ap₂ _&&_ (eq-eqb (numberAt img at) t (sym ex ∙ right-t)) (eq-eqb (numberAt img (at + 2)) b (sym ey ∙ right-b)))
 
         pub no-roots : next ≤ t → some 9 ≡ firstNo (questionsAt img at t b next previous)
-        unfolding questionsAt
+        unfolding questionsAfter nodeQuestions
         no-roots h = sym (past-8 ∙ asked-no 9 _ _ (ap (_&& leb (next - t) 60) (lt-leb 1 (next - t) (omega arith))))
 
         pub many-roots : 60 < next - t → some 9 ≡ firstNo (questionsAt img at t b next previous)
-        unfolding questionsAt
+        unfolding questionsAfter nodeQuestions
         many-roots h = sym (past-8 ∙ asked-no 9 _ _ (ap₂ _&&_ (le-leb 1 (next - t) (omega arith)) (lt-leb (next - t) 60 h)))
 
-        module _ (lo : t < next) (hi : next - t ≤ 60) where
-          past-9 : firstNo (questionsAt img at t b next previous) ≡ firstNo (shapeQuestions (pairsAt img at) (next - t) previous)
-          unfolding questionsAt
-          past-9 = past-8 ∙ asked-yes 9 _ _ (ap₂ _&&_ (le-leb 1 (next - t) (omega arith)) (le-leb (next - t) 60 hi))
-
-          pub by-shape : (s : Shape) → Shaped (pairsAt img at) (next - t) previous s → PageAsked img at t b next previous s
-          by-shape s shape = record { asked = shape .asked ∙ sym past-9; counted = shape .counted; bounded = shape .bounded }
+        pub by-shape : (s : Shape) → Shaped (pairsAt img at) (next - t) previous s → PageAsked img at t b next previous s
+        by-shape s shape = record { asked = shape .asked ∙ sym past-8; counted = shape .counted; bounded = shape .bounded }

@@ -2,18 +2,18 @@
 use mathlib.Core.Path.{_≡_, sym, ap, ap₂, _∙_}
 use mathlib.Core.Bool.{Bool, true, false, _&&_}
 use mathlib.Core.List.{List, [], _∷_}
-use mathlib.Core.Option.{some}
+use mathlib.Core.Option.{none, some}
 use Prim.Native.Nat.{ℕ, zero, suc, _+_, _-_, _*_, _≤_, _<_}
 use native.Mathlib.Omega.{arith}
 use borrow.Author.Tests.{le-leb, lt-leb, lt-ltb, le-ltb, eqb-true}
-use lib.Dec.{leb, ltb}
+use lib.Dec.{leb}
 use lib.ListN.{length, take, drop, getD}
 use lib.Seq.{take-all}
 use Rattle.format.specs.Seq.{All, every}
 use Rattle.format.specs.Trie.{bits, onBits}
-use Rattle.format.specs.Page.{Byte, firstSubtries, nodeCount}
-use Rattle.format.specs.Question.{firstNo, isPositive, isZero}
-use Rattle.format.proofs.Lists.{all-drop, and-right, every-all}
+use Rattle.format.specs.Page.{Byte, firstSubtries, levelsIn, nodeCount}
+use Rattle.format.specs.Question.{firstNo, isPositive, isZero, noRoom, nodeQuestions}
+use Rattle.format.proofs.Lists.{all-drop, and-both, and-right, every-all}
 use Rattle.format.proofs.Bytes.{length-levelsIn, levels-shape}
 use Rattle.format.proofs.Subtries.{first-shape, length-first, node-bounds}
 use Rattle.format.proofs.Counting.{marks, marks-add, marks-mono, thirdAt, fourthAt, nodes-counted, links-counted, subtrie-counted, every-flatten, flatten-levels}
@@ -25,8 +25,8 @@ use Rattle.nodes.proofs.Used.{rest-empty-law}
 use Rattle.nodes.proofs.Calls.{counted, all-counted, none-found-empty, rest-found-empty}
 use Rattle.header.specs.Refusal.{refusalOf}
 use Rattle.checker.specs.declared.page.Shape.{Shape}
-use Rattle.checker.specs.Paged.{pairsAt, levels, shapeQuestions, Shaped}
-use Rattle.format.proofs.Questions.{asked-yes, asked-no}
+use Rattle.checker.specs.Paged.{pairsAt, questionsAfter, Shaped}
+use Rattle.format.proofs.Questions.{after-no, after-yes, asked-no, asked-yes, none-of-yes}
 
 -- ---- bounds
 
@@ -66,9 +66,13 @@ module _ {img : List ℕ} {at r : ℕ} {w : Words} (k : Known img at r w) where
   unfolding marks
   whole = ap onBits (take-all 240 (pairsAt img at) (omega (arith, length-nodes img (k .small) at (k .fits))))
 
+  -- question 9 gets a yes
+  nine : (leb 1 r && leb r 60) ≡ true
+  nine = and-both (le-leb 1 r (k .some-roots)) (le-leb r 60 (k .few-roots))
+
   -- question 10's second half, of as many pairs as there are nodes
-  all-positive : every (every isPositive) (levels (pairsAt img at) r) ≡ every isPositive (take (nodeCount r (levels (pairsAt img at) r)) (pairsAt img at))
-  all-positive = every-flatten isPositive (levels (pairsAt img at) r) ∙ ap (every isPositive) (flatten-levels 4 r (pairsAt img at))
+  all-positive : every (every isPositive) (levelsIn 4 r (pairsAt img at)) ≡ every isPositive (take (nodeCount r (levelsIn 4 r (pairsAt img at))) (pairsAt img at))
+  all-positive = every-flatten isPositive (levelsIn 4 r (pairsAt img at)) ∙ ap (every isPositive) (flatten-levels 4 r (pairsAt img at))
 
 -- ---- the level ends, one after another
 
@@ -98,7 +102,7 @@ third {img} {at} {r} {w} {a} s b e =
 pub record Fourth (img : List ℕ) (at r : ℕ) (w : Words) (a b c : ℕ) : Type 0 where
   pub before : Third img at r w a b
   pub is : c ≡ marks (pairsAt img at) (r + b)
-  pub nodes-are : r + c ≡ nodeCount r (levels (pairsAt img at) r)
+  pub nodes-are : r + c ≡ nodeCount r (levelsIn 4 r (pairsAt img at))
 
 pub fourth : {img : List ℕ} {at r : ℕ} {w : Words} {a b : ℕ} → Third img at r w a b → r + b ≤ 240 → (c : ℕ) → c ≡ onesBefore (w .word) (w .before) (r + b) → Fourth img at r w a b c
 fourth {img} {at} {r} {w} {a} {b} t h c e =
@@ -109,8 +113,8 @@ fourth {img} {at} {r} {w} {a} {b} t h c e =
 pub record Ended (img : List ℕ) (at r : ℕ) (w : Words) (a b c all : ℕ) : Type 0 where
   pub before : Fourth img at r w a b c
   pub fits : r + c ≤ 240
-  pub asked : (v : ℕ) → firstNo (shapeQuestions (pairsAt img at) r v) ≡ firstNo ((12, ltb 240 (nodeCount 1 (firstSubtries 1 (levels (pairsAt img at) r)) + v)) ∷ [])
-  pub positive : every (every isPositive) (levels (pairsAt img at) r) ≡ true
+  pub asked : firstNo (nodeQuestions r (pairsAt img at)) ≡ none
+  pub positive : every (every isPositive) (levelsIn 4 r (pairsAt img at)) ≡ true
   pub all-is : all ≡ onBits (pairsAt img at)
   pub end-is : all ≡ marks (pairsAt img at) (r + c)
 
@@ -143,65 +147,62 @@ module _ {img : List ℕ} {at r : ℕ} {w : Words} {a b c all : ℕ} (e : Ended 
 -- ---- questions 10 and 11
 
 module _ {img : List ℕ} {at r : ℕ} {w : Words} {a b : ℕ} (t : Third img at r w a b) where
-  pub over-fourth : 240 < r + b → (v : ℕ) → some 10 ≡ firstNo (shapeQuestions (pairsAt img at) r v)
-  unfolding shapeQuestions
-  over-fourth h v =
+  pub over-fourth : 240 < r + b → firstNo (nodeQuestions r (pairsAt img at)) ≡ some 10
+  unfolding nodeQuestions
+  over-fourth h =
       let ps : List ℕ = pairsAt img at in
       let third-first : r ≤ thirdAt ps r = omega arith in
       let fourth-third : thirdAt ps r ≤ fourthAt ps r = omega (arith, marks-mono ps r (thirdAt ps r) third-first) in
-      let over : 240 < nodeCount r (levels ps r) =
+      let over : 240 < nodeCount r (levelsIn 4 r ps) =
       omega (arith, nodes-counted ps r, marks-mono ps (thirdAt ps r) (fourthAt ps r) fourth-third, t .place) in
-      sym (asked-no 10 _ _ (ap (_&& every (every isPositive) (levels ps r)) (lt-leb (nodeCount r (levels ps r)) 240 over)))
+      asked-yes 9 _ _ (nine (t .before .known)) ∙ asked-no 10 _ _ (ap (_&& every (every isPositive) (levelsIn 4 r ps)) (lt-leb (nodeCount r (levelsIn 4 r ps)) 240 over))
 
 module _ {img : List ℕ} {at r : ℕ} {w : Words} {a b c : ℕ} (f : Fourth img at r w a b c) where
   k : Known img at r w
   k = f .before .before .known
 
-  pub over-end : 240 < r + c → (v : ℕ) → some 10 ≡ firstNo (shapeQuestions (pairsAt img at) r v)
-  unfolding shapeQuestions
-  over-end h v = sym (asked-no 10 _ _ (ap (_&& every (every isPositive) (levels (pairsAt img at) r)) (lt-leb (nodeCount r (levels (pairsAt img at) r)) 240 (omega (arith, f .nodes-are)))))
+  pub over-end : 240 < r + c → firstNo (nodeQuestions r (pairsAt img at)) ≡ some 10
+  unfolding nodeQuestions
+  over-end h = asked-yes 9 _ _ (nine k) ∙ asked-no 10 _ _ (ap (_&& every (every isPositive) (levelsIn 4 r (pairsAt img at))) (lt-leb (nodeCount r (levelsIn 4 r (pairsAt img at))) 240 (omega (arith, f .nodes-are))))
 
   module _ (h : r + c ≤ 240) (p : Bool) (ep : p ≡ noneEmpty (w .word) (r + c)) where
     p-is : p ≡ every isPositive (take (r + c) (pairsAt img at))
     p-is = ep ∙ none-found-empty img (k .small) at (k .fits) w (k .gathered) (r + c) h
 
-    ten : (leb (nodeCount r (levels (pairsAt img at) r)) 240 && every (every isPositive) (levels (pairsAt img at) r)) ≡ p
+    ten : (leb (nodeCount r (levelsIn 4 r (pairsAt img at))) 240 && every (every isPositive) (levelsIn 4 r (pairsAt img at))) ≡ p
     ten =
-        ap₂ _&&_ (le-leb (nodeCount r (levels (pairsAt img at) r)) 240 (omega (arith, f .nodes-are)))
+        ap₂ _&&_ (le-leb (nodeCount r (levelsIn 4 r (pairsAt img at))) 240 (omega (arith, f .nodes-are)))
         (all-positive k ∙ ap (λ (n : ℕ). every isPositive (take n (pairsAt img at))) (sym (f .nodes-are)) ∙ sym p-is)
 
-    pub empty-found : p ≡ false → (v : ℕ) → some 10 ≡ firstNo (shapeQuestions (pairsAt img at) r v)
-    unfolding shapeQuestions
-    empty-found e v = sym (asked-no 10 _ _ (ten ∙ e))
+    pub empty-found : p ≡ false → firstNo (nodeQuestions r (pairsAt img at)) ≡ some 10
+    unfolding nodeQuestions
+    empty-found e = asked-yes 9 _ _ (nine k) ∙ asked-no 10 _ _ (ten ∙ e)
 
     module _ (yes-10 : p ≡ true) (q : Bool) (eq : q ≡ restEmpty (w .word) (w .before) (r + c)) where
       q-is : q ≡ every isZero (drop (r + c) (pairsAt img at))
       q-is = eq ∙ rest-found-empty img (k .small) at (k .fits) w (k .gathered) (r + c) h
 
-      eleven : every isZero (drop (nodeCount r (levels (pairsAt img at) r)) (pairsAt img at)) ≡ q
+      eleven : every isZero (drop (nodeCount r (levelsIn 4 r (pairsAt img at))) (pairsAt img at)) ≡ q
       eleven = ap (λ (n : ℕ). every isZero (drop n (pairsAt img at))) (sym (f .nodes-are)) ∙ sym q-is
 
-      pub rest-found : q ≡ false → (v : ℕ) → some 11 ≡ firstNo (shapeQuestions (pairsAt img at) r v)
-      unfolding shapeQuestions
-      rest-found e v = sym (asked-yes 10 _ _ (ten ∙ yes-10) ∙ asked-no 11 _ _ (eleven ∙ e))
+      pub rest-found : q ≡ false → firstNo (nodeQuestions r (pairsAt img at)) ≡ some 11
+      unfolding nodeQuestions
+      rest-found e = asked-yes 9 _ _ (nine k) ∙ asked-yes 10 _ _ (ten ∙ yes-10) ∙ asked-no 11 _ _ (eleven ∙ e)
 
       module _ (yes-11 : q ≡ true) where
-        both : (v : ℕ) → firstNo (shapeQuestions (pairsAt img at) r v) ≡ firstNo ((12, ltb 240 (nodeCount 1 (firstSubtries 1 (levels (pairsAt img at) r)) + v)) ∷ [])
-        unfolding shapeQuestions
-        both v = asked-yes 10 _ _ (ten ∙ yes-10) ∙ asked-yes 11 _ _ (eleven ∙ yes-11)
-
         all-before : marks (pairsAt img at) (r + c) ≡ onBits (pairsAt img at)
         unfolding marks
         all-before = eqb-true (onBits (take (r + c) (pairsAt img at))) (onBits (pairsAt img at)) (rest-empty-law (pairsAt img at) (r + c) ∙ sym q-is ∙ yes-11)
 
         pub ended : (all : ℕ) → all ≡ getD (w .before) 8 0 → Ended img at r w a b c all
+        unfolding nodeQuestions
         ended all ea =
             let all-is = ea ∙ all-counted img (k .small) at (k .fits) w (k .gathered) in
             record {
               before = f;
               fits = h;
-              asked = both;
-              positive = and-right (leb (nodeCount r (levels (pairsAt img at) r)) 240) (every (every isPositive) (levels (pairsAt img at) r)) (ten ∙ yes-10);
+              asked = none-of-yes (nodeQuestions r (pairsAt img at)) (nine k, (ten ∙ yes-10, (eleven ∙ yes-11, tt)));
+              positive = and-right (leb (nodeCount r (levelsIn 4 r (pairsAt img at))) 240) (every (every isPositive) (levelsIn 4 r (pairsAt img at))) (ten ∙ yes-10);
               all-is = all-is;
               end-is = all-is ∙ sym all-before;
             }
@@ -209,13 +210,18 @@ module _ {img : List ℕ} {at r : ℕ} {w : Words} {a b c : ℕ} (f : Fourth img
 -- ---- question 12, and what is counted
 
 -- what a page that is refused says
-pub refused-shape : {ps : List ℕ} {r v n : ℕ} (s : Shape) → some (suc n) ≡ firstNo (shapeQuestions ps r v) → (s .refusal ≡ suc n) × (s .nodes ≡ 0) × (s .links ≡ 0) → Shaped ps r v s
+pub refused-shape : {ps : List ℕ} {r v n : ℕ} (s : Shape) → some (suc n) ≡ firstNo (questionsAfter v r ps) → (s .refusal ≡ suc n) × (s .nodes ≡ 0) × (s .links ≡ 0) → Shaped ps r v s
 unfolding refusalOf
 refused-shape s e h = record {
   asked = ap refusalOf (h .0) ∙ e;
   counted = λ z. absurd (omega arith);
   bounded = record { few-nodes = omega arith; few-links = omega arith };
 }
+
+-- and one that 10 or 11 refuses: 12 is not asked
+pub refused-nodes : {ps : List ℕ} {r v n : ℕ} (s : Shape) → firstNo (nodeQuestions r ps) ≡ some (suc n) → (s .refusal ≡ suc n) × (s .nodes ≡ 0) × (s .links ≡ 0) → Shaped ps r v s
+unfolding questionsAfter
+refused-nodes {ps} {r} s e h = refused-shape s (sym (after-no (nodeQuestions r ps) _ _ e)) h
 
 module _ {img : List ℕ} {at r : ℕ} {w : Words} {a b c all : ℕ} (e : Ended img at r w a b c all) where
   pub links-few : c ≤ all
@@ -227,7 +233,7 @@ module _ {img : List ℕ} {at r : ℕ} {w : Words} {a b c all : ℕ} (e : Ended 
       let bc : b ≤ c = omega (arith, f .is, t .is, marks-mono p (r + a) (r + b) (omega arith)) in
       omega (arith, e .end-is, f .is, marks-mono p (r + b) (r + c) (omega arith))
 
-  links-is : all - c ≡ onBits (getD (levels (pairsAt img at) r) 3 [])
+  links-is : all - c ≡ onBits (getD (levelsIn 4 r (pairsAt img at)) 3 [])
   links-is =
       let f = e .before in
       let p : List ℕ = pairsAt img at in
@@ -235,16 +241,17 @@ module _ {img : List ℕ} {at r : ℕ} {w : Words} {a b c all : ℕ} (e : Ended 
 
   -- the nodes of the first subtrie
   first : ℕ
-  first = nodeCount 1 (firstSubtries 1 (levels (pairsAt img at) r))
+  first = nodeCount 1 (firstSubtries 1 (levelsIn 4 r (pairsAt img at)))
 
-  twelve : (v : ℕ) → 240 < first + v → firstNo (shapeQuestions (pairsAt img at) r v) ≡ firstNo []
-  unfolding first
-  twelve v h = e .asked v ∙ asked-yes 12 _ [] (lt-ltb 240 (first + v) h)
+  -- 12 alone is left to ask
+  past-11 : (v : ℕ) → firstNo (questionsAfter v r (pairsAt img at)) ≡ firstNo ((12, noRoom v (levelsIn 4 r (pairsAt img at))) ∷ [])
+  unfolding questionsAfter
+  past-11 v = after-yes (nodeQuestions r (pairsAt img at)) _ (e .asked)
 
   shaped : (v : ℕ) → 240 < first + v → Shaped (pairsAt img at) r v (record { refusal = 0; nodes = r + c; links = all - c })
-  unfolding refusalOf firstNo
+  unfolding refusalOf firstNo noRoom first
   shaped v h = record {
-    asked = sym (twelve v h);
+    asked = sym (past-11 v ∙ asked-yes 12 _ [] (lt-ltb 240 (first + v) h));
     counted = λ z. record { nodes-are = e .before .nodes-are; links-are = links-is };
     bounded = record { few-nodes = e .fits; few-links = omega (arith, e .end-is, marks-few (e .before .before .before .known) (r + c), e .fits) };
   }
@@ -256,9 +263,9 @@ module _ {img : List ℕ} {at r : ℕ} {w : Words} {a b c all : ℕ} (e : Ended 
       let k = e .before .before .before .known in
       let ps : List ℕ = pairsAt img at in
       let shape = levels-shape 4 r ps (nodes-small img (k .small) at (k .fits)) (omega (arith, e .before .nodes-are, e .fits, length-nodes img (k .small) at (k .fits)))
-      (every-all (every isPositive) (levels ps r) (e .positive)) in
+      (every-all (every isPositive) (levelsIn 4 r ps) (e .positive)) in
       shaped v
-      (omega (arith, node-bounds 1 (firstSubtries 1 (levels ps r)) (length-first 1 (levels ps r) ∙ length-levelsIn 4 r ps) (first-shape 1 r (levels ps r) (k .some-roots) shape)))
+      (omega (arith, node-bounds 1 (firstSubtries 1 (levelsIn 4 r ps)) (length-first 1 (levelsIn 4 r ps) ∙ length-levelsIn 4 r ps) (first-shape 1 r (levelsIn 4 r ps) (k .some-roots) shape)))
 
   module _ (f x y : ℕ) (ef : (f ≡ marks (pairsAt img at) 1) × (f ≤ 2)) (ex : (x ≡ marks (pairsAt img at) (r + f)) × (a ≤ x) × (x - a ≤ 4))
       (ey : (y ≡ marks (pairsAt img at) (r + a + (x - a))) × (b ≤ y) × (y - b ≤ 8)) where
@@ -274,6 +281,6 @@ module _ {img : List ℕ} {at r : ℕ} {w : Words} {a b c all : ℕ} (e : Ended 
     pub after-other : (v : ℕ) → 240 < 1 + f + (x - a) + (y - b) + v → Shaped (pairsAt img at) r v (record { refusal = 0; nodes = r + c; links = all - c })
     after-other v h = shaped v (omega (arith, first-is))
 
-    pub not-needed : (v : ℕ) → 1 + f + (x - a) + (y - b) + v ≤ 240 → some 12 ≡ firstNo (shapeQuestions (pairsAt img at) r v)
-    unfolding first
-    not-needed v h = sym (e .asked v ∙ asked-no 12 _ [] (le-ltb 240 (first + v) (omega (arith, first-is))))
+    pub not-needed : (v : ℕ) → 1 + f + (x - a) + (y - b) + v ≤ 240 → some 12 ≡ firstNo (questionsAfter v r (pairsAt img at))
+    unfolding first noRoom
+    not-needed v h = sym (past-11 v ∙ asked-no 12 _ [] (le-ltb 240 (first + v) (omega (arith, first-is))))

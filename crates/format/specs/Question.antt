@@ -8,7 +8,7 @@ use mathlib.Core.List.{List, [], _∷_, _++_, map, flatMap}
 use lib.Dec.{leb, ltb, eqb}
 use lib.ListN.{length, getD, take, drop}
 use Rattle.format.specs.Seq.{numbersFrom, upTo, total, every}
-use Rattle.format.specs.Page.{firstSubtries, nodeCount, numberAt}
+use Rattle.format.specs.Page.{firstSubtries, levelsIn, nodeCount, numberAt}
 use Rattle.format.specs.Header.{mark}
 use Rattle.format.specs.Image.{bands, versionOf, liftOf, keyCount, pageCount, rootCount, pageT, pageB, pagePairs, pageRoots, pageLevels, pageNodes, outLinkCount}
 
@@ -99,19 +99,25 @@ unfoldable pub headRight : List ℕ → ℕ → ℕ → Bool
 headRight img b zero = isZero (pageT img b 0) && isZero (pageB img b 0)
 headRight img b (suc i) = eqb (pageB img b (suc i)) (pageB img b i + outLinkCount img b i)
 
+-- 9 to 11, of a page's 240 pairs with r roots
+unfoldable pub nodeQuestions : ℕ → List ℕ → List Question
+nodeQuestions r pairs =
+    (9, leb 1 r && leb r 60)
+    ∷ (10, leb (nodeCount r (levelsIn 4 r pairs)) 240 && every (every isPositive) (levelsIn 4 r pairs))
+    ∷ (11, every isZero (drop (nodeCount r (levelsIn 4 r pairs)) pairs))
+    ∷ []
+
+-- the first subtrie of a page's levels has no room on a page that already has so many nodes
+unfoldable pub noRoom : ℕ → List (List ℕ) → Bool
+noRoom nodes levels = ltb 240 (nodeCount 1 (firstSubtries 1 levels) + nodes)
+
 -- 12: a later page's first subtrie had no room on the previous page
 unfoldable pub pageNeeded : List ℕ → ℕ → ℕ → Bool
 pageNeeded img b zero = true
-pageNeeded img b (suc i) = ltb 240 (nodeCount 1 (firstSubtries 1 (pageLevels img b (suc i))) + pageNodes img b i)
+pageNeeded img b (suc i) = noRoom (pageNodes img b i) (pageLevels img b (suc i))
 
 unfoldable pub pageQuestions : List ℕ → ℕ → ℕ → List Question
-pageQuestions img b i =
-    (8, headRight img b i)
-    ∷ (9, leb 1 (pageRoots img b i) && leb (pageRoots img b i) 60)
-    ∷ (10, leb (pageNodes img b i) 240 && every (every isPositive) (pageLevels img b i))
-    ∷ (11, every isZero (drop (pageNodes img b i) (pagePairs img b i)))
-    ∷ (12, pageNeeded img b i)
-    ∷ []
+pageQuestions img b i = (8, headRight img b i) ∷ nodeQuestions (pageRoots img b i) (pagePairs img b i) ++ (12, pageNeeded img b i) ∷ []
 
 -- ---- 13, of band b, and all
 

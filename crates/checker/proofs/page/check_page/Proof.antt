@@ -17,7 +17,7 @@ returns-4 : tie.Need-returns-4
 returns-4 c = refused-page _ _ _ _ _ _ _ (many-roots _ _ _ _ _ _ _ (c .before .before .before .before .before .before .before .before .before .before .before .before .number .ensures .0) (c .before .before .before .before .before .before .before .before .before .before .if1 .left) _ (c .before .before .before .before .before .before .before .before .before .number2 .ensures .0) (c .before .before .before .before .before .before .before .if2 .left) (c .before .if4 .taken)) (c .refused4 .ensures)
 
 returns-5 : tie.Need-returns-5
-returns-5 c = by-shape _ _ _ _ _ _ _ (c .before .before .before .before .before .before .before .before .before .before .before .before .number .ensures .0) (c .before .before .before .before .before .before .before .before .before .before .if1 .left) _ (c .before .before .before .before .before .before .before .before .before .number2 .ensures .0) (c .before .before .before .before .before .before .before .if2 .left) (c .before .before .before .before .if3 .left) (c .before .if4 .left) _ (c .check-shape .ensures)
+returns-5 c = by-shape _ _ _ _ _ _ _ (c .before .before .before .before .before .before .before .before .before .before .before .before .number .ensures .0) (c .before .before .before .before .before .before .before .before .before .before .if1 .left) _ (c .before .before .before .before .before .before .before .before .before .number2 .ensures .0) (c .before .before .before .before .before .before .before .if2 .left) _ (c .check-shape .ensures)
 
 pub check-page-spec : {M : Type 1} → statement M
 check-page-spec =

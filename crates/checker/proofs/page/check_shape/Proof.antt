@@ -9,7 +9,7 @@ use Rattle.format.proofs.Counting.{marks}
 use Rattle.nodes.specs.declared.Words.{Words}
 use Rattle.nodes.proofs.Numbers.{bytes-of}
 use Rattle.checker.specs.Paged.{pairsAt}
-use Rattle.checker.proofs.Shapes.{Known, Second, Third, Fourth, Ended, second, third, fourth, ended, first-second, first-third, first-fourth, over-fourth, over-end, empty-found, rest-found, refused-shape, links-few, after-full, after-other, not-needed}
+use Rattle.checker.proofs.Shapes.{Known, Second, Third, Fourth, Ended, second, third, fourth, ended, first-second, first-third, first-fourth, over-fourth, over-end, empty-found, rest-found, refused-nodes, refused-shape, links-few, after-full, after-other, not-needed}
 use borrow.Author.Needs.{needs}
 use Rattle.checker.proofs.page.check_shape.Statement.{statement}
 use Rattle.checker.proofs.page.check_shape.Tie as tie
@@ -103,16 +103,16 @@ on-bits-before-requires-2 : tie.Need-on-bits-before-requires-2
 on-bits-before-requires-2 c κs = omega (arith, second-known (c .before .before .before))
 
 returns : tie.Need-returns
-returns c = refused-shape _ (over-fourth (third-known (c .before .before)) (c .before .if1 .taken) _) (c .refused .ensures)
+returns c = refused-nodes _ (over-fourth (third-known (c .before .before)) (c .before .if1 .taken)) (c .refused .ensures)
 
 returns-2 : tie.Need-returns-2
-returns-2 c = refused-shape _ (over-end (fourth-known (c .before .before)) (c .before .if2 .taken) _) (c .refused2 .ensures)
+returns-2 c = refused-nodes _ (over-end (fourth-known (c .before .before)) (c .before .if2 .taken)) (c .refused2 .ensures)
 
 returns-3 : tie.Need-returns-3
-returns-3 c = refused-shape _ (empty-found (fourth-known (c .before .before .before .before .before .before)) (c .before .before .before .before .before .if2 .left) _ (c .before .before .none-empty .ensures) (not-true _ (c .before .if3 .taken)) _) (c .refused3 .ensures)
+returns-3 c = refused-nodes _ (empty-found (fourth-known (c .before .before .before .before .before .before)) (c .before .before .before .before .before .if2 .left) _ (c .before .before .none-empty .ensures) (not-true _ (c .before .if3 .taken))) (c .refused3 .ensures)
 
 returns-4 : tie.Need-returns-4
-returns-4 c = refused-shape _ (rest-found (fourth-known (c .before .before .before .before .before .before .before .before .before .before .before)) (c .before .before .before .before .before .before .before .before .before .before .if2 .left) _ (c .before .before .before .before .before .before .before .none-empty .ensures) (not-false _ (c .before .before .before .before .before .before .if3 .left)) _ (c .before .before .rest-empty .ensures) (not-true _ (c .before .if4 .taken)) _) (c .refused4 .ensures)
+returns-4 c = refused-nodes _ (rest-found (fourth-known (c .before .before .before .before .before .before .before .before .before .before .before)) (c .before .before .before .before .before .before .before .before .before .before .if2 .left) _ (c .before .before .before .before .before .before .before .none-empty .ensures) (not-false _ (c .before .before .before .before .before .before .if3 .left)) _ (c .before .before .rest-empty .ensures) (not-true _ (c .before .if4 .taken))) (c .refused4 .ensures)
 
 sub-first3 : tie.Need-sub-first3
 sub-first3 c = links-few (ended-known c)
