@@ -53,6 +53,7 @@ module _ (img : List ℕ) (b : ℕ) where
   head-is zero h = refl
   head-is (suc i) h = sym (ap (_&& eqb (pageB img b (suc i)) (bDue img b (suc i))) (eq-eqb (pageT img b (suc i)) (nextT img b i) (t-next i h)))
 
+  -- 12 is asked of a band's first page too: after 241 nodes nothing has room
   needed-is : (i : ℕ) → pageNeeded img b i ≡ noRoom (nodesDue img b i) (pageLevels img b i)
   unfolding pageNeeded noRoom
   needed-is zero = sym (lt-ltb 240 (nodeCount 1 (firstSubtries 1 (pageLevels img b 0)) + 241) (omega arith))

@@ -51,6 +51,7 @@ module _ (img : List ℕ) (at t b next previous : ℕ) where
       wrong-b h = sym (asked-no 8 _ _ (ap₂ _&&_ (eq-eqb (numberAt img at) t (sym ex ∙ right-t)) (ne-eqb (numberAt img (at + 2)) b (λ e. h (ey ∙ e)))))
 
       module _ (right-b : y ≡ b) where
+        -- 9 to 12 are left to ask
         past-8 : firstNo (questionsAt img at t b next previous) ≡ firstNo (questionsAfter previous (next - t) (pairsAt img at))
         unfolding questionsAt
         past-8 = asked-yes 8 _ _ (ap₂ _&&_ (eq-eqb (numberAt img at) t (sym ex ∙ right-t)) (eq-eqb (numberAt img (at + 2)) b (sym ey ∙ right-b)))

@@ -1,4 +1,4 @@
--- A page's levels from counts of on bits before places, step by step as the code takes them: questions 10 and 11, and the page's counts. Assumes nothing.
+-- A page's levels from counts of on bits before places, step by step as the code takes them: questions 9 to 12, and the page's counts. Assumes nothing.
 use mathlib.Core.Path.{_≡_, sym, ap, ap₂, _∙_}
 use mathlib.Core.Bool.{Bool, true, false, _&&_}
 use mathlib.Core.List.{List, [], _∷_}
@@ -8,7 +8,6 @@ use native.Mathlib.Omega.{arith}
 use borrow.Author.Tests.{le-leb, lt-leb, lt-ltb, le-ltb, eqb-true}
 use lib.Dec.{leb}
 use lib.ListN.{length, take, drop, getD}
-use lib.Seq.{take-all}
 use Rattle.format.specs.Seq.{All, every}
 use Rattle.format.specs.Trie.{bits, onBits}
 use Rattle.format.specs.Page.{Byte, firstSubtries, levelsIn, nodeCount}
@@ -26,7 +25,7 @@ use Rattle.nodes.proofs.Calls.{counted, all-counted, none-found-empty, rest-fou
 use Rattle.header.specs.Refusal.{refusalOf}
 use Rattle.checker.specs.declared.page.Shape.{Shape}
 use Rattle.checker.specs.Paged.{pairsAt, questionsAfter, Shaped}
-use Rattle.format.proofs.Questions.{after-no, after-yes, asked-no, asked-yes, none-of-yes}
+use Rattle.format.proofs.Questions.{after-no, after-yes, asked-no, asked-yes, none-of-yes, yes-of-none}
 
 -- ---- bounds
 
@@ -61,10 +60,6 @@ module _ {img : List ℕ} {at r : ℕ} {w : Words} (k : Known img at r w) where
   rank : (n x : ℕ) → n ≤ 240 → x ≡ onesBefore (w .word) (w .before) n → x ≡ marks (pairsAt img at) n
   unfolding marks
   rank n x h e = e ∙ counted img (k .small) at (k .fits) w (k .gathered) n h
-
-  whole : marks (pairsAt img at) 240 ≡ onBits (pairsAt img at)
-  unfolding marks
-  whole = ap onBits (take-all 240 (pairsAt img at) (omega (arith, length-nodes img (k .small) at (k .fits))))
 
   -- question 9 gets a yes
   nine : (leb 1 r && leb r 60) ≡ true
@@ -109,12 +104,11 @@ fourth {img} {at} {r} {w} {a} {b} t h c e =
     let f = rank (t .before .known) (r + b) c h e in
     record { before = t; is = f; nodes-are = ap (r +_) (f ∙ ap (marks (pairsAt img at)) (t .place)) ∙ sym (nodes-counted (pairsAt img at) r) }
 
--- all the page's on bits stand before its end
+-- 9 to 11 got a yes, and all the page's on bits stand before its end
 pub record Ended (img : List ℕ) (at r : ℕ) (w : Words) (a b c all : ℕ) : Type 0 where
   pub before : Fourth img at r w a b c
   pub fits : r + c ≤ 240
   pub asked : firstNo (nodeQuestions r (pairsAt img at)) ≡ none
-  pub positive : every (every isPositive) (levelsIn 4 r (pairsAt img at)) ≡ true
   pub all-is : all ≡ onBits (pairsAt img at)
   pub end-is : all ≡ marks (pairsAt img at) (r + c)
 
@@ -144,7 +138,7 @@ module _ {img : List ℕ} {at r : ℕ} {w : Words} {a b c all : ℕ} (e : Ended 
       let i = e .before .before .is in
       (g, omega (arith, marks-mono (pairsAt img at) (r + a) (r + a + y) (omega arith)), omega (arith, marks-grow known (r + a) y))
 
--- ---- questions 10 and 11
+-- ---- questions 9 to 11
 
 module _ {img : List ℕ} {at r : ℕ} {w : Words} {a b : ℕ} (t : Third img at r w a b) where
   pub over-fourth : 240 < r + b → firstNo (nodeQuestions r (pairsAt img at)) ≡ some 10
@@ -202,7 +196,6 @@ module _ {img : List ℕ} {at r : ℕ} {w : Words} {a b c : ℕ} (f : Fourth img
               before = f;
               fits = h;
               asked = none-of-yes (nodeQuestions r (pairsAt img at)) (nine k, (ten ∙ yes-10, (eleven ∙ yes-11, tt)));
-              positive = and-right (leb (nodeCount r (levelsIn 4 r (pairsAt img at))) 240) (every (every isPositive) (levelsIn 4 r (pairsAt img at))) (ten ∙ yes-10);
               all-is = all-is;
               end-is = all-is ∙ sym all-before;
             }
@@ -218,7 +211,7 @@ refused-shape s e h = record {
   bounded = record { few-nodes = omega arith; few-links = omega arith };
 }
 
--- and one that 10 or 11 refuses: 12 is not asked
+-- and one that is refused before 12 is asked
 pub refused-nodes : {ps : List ℕ} {r v n : ℕ} (s : Shape) → firstNo (nodeQuestions r ps) ≡ some (suc n) → (s .refusal ≡ suc n) × (s .nodes ≡ 0) × (s .links ≡ 0) → Shaped ps r v s
 unfolding questionsAfter
 refused-nodes {ps} {r} s e h = refused-shape s (sym (after-no (nodeQuestions r ps) _ _ e)) h
@@ -258,12 +251,12 @@ module _ {img : List ℕ} {at r : ℕ} {w : Words} {a b c all : ℕ} (e : Ended 
 
   -- it has at least four
   pub after-full : (v : ℕ) → 236 < v → Shaped (pairsAt img at) r v (record { refusal = 0; nodes = r + c; links = all - c })
-  unfolding first
+  unfolding first nodeQuestions
   after-full v h =
       let k = e .before .before .before .known in
       let ps : List ℕ = pairsAt img at in
       let shape = levels-shape 4 r ps (nodes-small img (k .small) at (k .fits)) (omega (arith, e .before .nodes-are, e .fits, length-nodes img (k .small) at (k .fits)))
-      (every-all (every isPositive) (levelsIn 4 r ps) (e .positive)) in
+      (every-all (every isPositive) (levelsIn 4 r ps) (and-right (leb (nodeCount r (levelsIn 4 r ps)) 240) (every (every isPositive) (levelsIn 4 r ps)) (yes-of-none (nodeQuestions r ps) (e .asked) .1 .0))) in
       shaped v
       (omega (arith, node-bounds 1 (firstSubtries 1 (levelsIn 4 r ps)) (length-first 1 (levelsIn 4 r ps) ∙ length-levelsIn 4 r ps) (first-shape 1 r (levelsIn 4 r ps) (k .some-roots) shape)))
 
