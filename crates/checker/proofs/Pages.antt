@@ -7,12 +7,12 @@ use Prim.Native.Nat.{ℕ, zero, suc, _+_, _-_, _≤_, _<_}
 use native.Mathlib.Omega.{arith}
 use borrow.Author.Tests.{eq-eqb, ne-eqb, le-leb, lt-leb}
 use lib.Dec.{eqb, leb}
-use Rattle.format.specs.Page.{numberAt}
+use Rattle.format.specs.Page.{numberAt, pairsAt}
 use Rattle.format.specs.Question.{Question, firstNo, nodeQuestions}
 use Rattle.format.proofs.Questions.{after-no, after-yes, asked-no, asked-yes}
 use Rattle.checker.specs.declared.page.Shape.{Shape}
 use Rattle.header.specs.Refusal.{refusalOf}
-use Rattle.checker.specs.Paged.{pairsAt, questionsAfter, questionsAt, Shaped, PageAsked}
+use Rattle.checker.specs.Paged.{questionsAfter, questionsAt, Shaped, PageAsked}
 
 -- ---- the number of the first no
 

@@ -10,7 +10,7 @@ use lib.Dec.{leb}
 use lib.ListN.{length, take, drop, getD}
 use Rattle.format.specs.Seq.{All, every}
 use Rattle.format.specs.Trie.{bits, onBits}
-use Rattle.format.specs.Page.{Byte, firstSubtries, levelsIn, nodeCount}
+use Rattle.format.specs.Page.{Byte, firstSubtries, levelsIn, nodeCount, pairsAt}
 use Rattle.format.specs.Question.{firstNo, isPositive, isZero, noRoom, nodeQuestions}
 use Rattle.format.proofs.Lists.{all-drop, and-both, and-right, every-all}
 use Rattle.format.proofs.Bytes.{length-levelsIn, levels-shape}
@@ -24,7 +24,7 @@ use Rattle.nodes.proofs.Used.{rest-empty-law}
 use Rattle.nodes.proofs.Calls.{counted, all-counted, none-found-empty, rest-found-empty}
 use Rattle.header.specs.Refusal.{refusalOf}
 use Rattle.checker.specs.declared.page.Shape.{Shape}
-use Rattle.checker.specs.Paged.{pairsAt, questionsAfter, Shaped}
+use Rattle.checker.specs.Paged.{questionsAfter, Shaped}
 use Rattle.format.proofs.Questions.{after-no, after-yes, asked-no, asked-yes, none-of-yes, yes-of-none}
 
 -- ---- bounds

@@ -2,21 +2,17 @@
 -- Assumes nothing.
 use mathlib.Core.Path.{_≡_}
 use mathlib.Core.Bool.{_&&_}
-use mathlib.Core.List.{List, [], _∷_, _++_, flatMap, map}
+use mathlib.Core.List.{List, [], _∷_, _++_, map}
 use Prim.Native.Nat.{ℕ, _+_, _-_, _*_, _≤_}
 use lib.Dec.{eqb}
-use lib.ListN.{length, getD, take, drop}
+use lib.ListN.{length, getD}
 use Rattle.format.specs.Seq.{total}
 use Rattle.format.specs.Trie.{onBits}
-use Rattle.format.specs.Page.{levelsIn, nodeCount, numberAt, pairsOf}
+use Rattle.format.specs.Page.{levelsIn, nodeCount, numberAt, pairsAt}
 use Rattle.format.specs.Image.{bands, pageCount, pagesBefore}
 use Rattle.format.specs.Question.{Question, firstNo, noRoom, nodeQuestions}
 use Rattle.checker.specs.declared.page.Shape.{Shape}
 use Rattle.header.specs.Refusal.{refusalOf}
-
--- the 240 pairs of the page at a place
-abbrev pub pairsAt : List ℕ → ℕ → List ℕ
-pairsAt img at = flatMap pairsOf (take 60 (drop (at + 4) img))
 
 -- 9 to 12 of a page of r roots, where the page before has so many nodes
 unfoldable pub questionsAfter : ℕ → ℕ → List ℕ → List Question

@@ -5,7 +5,8 @@ use header::number;
 ghost use mathlib.Core.Path.{_≡_};
 ghost use Prim.Native.Nat.{_+_, _≤_};
 ghost use lib.ListN.{length};
-ghost use Rattle.checker.specs.Paged.{pairsAt, Shaped, PageAsked};
+ghost use Rattle.format.specs.Page.{pairsAt};
+ghost use Rattle.checker.specs.Paged.{Shaped, PageAsked};
 
 // What the questions of a page find: the number of the first that gets a no, 0 where none does, and then the page's nodes and out-links.
 pub struct Shape {

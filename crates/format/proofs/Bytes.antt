@@ -12,7 +12,7 @@ use lib.ListN.{length, getD, take, drop, replicate, length-append, length-drop, 
 use lib.Seq.{take-at, drop-at, take-add, drop-drop, drop-cons, getD-drop, length-take-le}
 use Rattle.format.specs.Seq.{All, every}
 use Rattle.format.specs.Trie.{onBits}
-use Rattle.format.specs.Page.{Byte, byteOf, levelsIn, nodeBytes, nodeCount, numberAt, pairsOf, twoBytes}
+use Rattle.format.specs.Page.{Byte, byteOf, levelsIn, nodeBytes, nodeCount, numberAt, pairsAt, pairsOf, twoBytes}
 use Rattle.format.specs.Question.{isPositive, isZero}
 use Rattle.format.specs.Writer.{pageBytes}
 use Rattle.format.proofs.Lists.{all-append, all-take, all-drop, all-get, all-to, every-all, all-every}
@@ -246,7 +246,7 @@ module _ (img : List ℕ) (at : ℕ) (within : at + 64 ≤ length img) (a : All 
   length-block = length-take-le 60 (drop (at + 4) img) (omega (arith, length-drop (at + 4) img))
 
   -- a page with its nodes and then zeros is the page that the writer gives for what is read there
-  pub page-back : (r : ℕ) (ps : List ℕ) → ps ≡ flatMap pairsOf (take 60 (drop (at + 4) img)) → every isZero (drop (nodeCount r (levelsIn 4 r ps)) ps) ≡ true
+  pub page-back : (r : ℕ) (ps : List ℕ) → ps ≡ pairsAt img at → every isZero (drop (nodeCount r (levelsIn 4 r ps)) ps) ≡ true
       → pageBytes (numberAt img at) (numberAt img (at + 2)) (levelsIn 4 r ps) ≡ take 64 (drop at img)
   unfolding pageBytes
   page-back r ps e z =

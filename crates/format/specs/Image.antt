@@ -4,11 +4,11 @@ use Prim.Native.Nat.{ℕ, _+_, _-_, _*_}
 use mathlib.Core.Bool.{cond}
 use mathlib.Core.List.{List, [], _∷_, map, flatMap}
 use lib.Dec.{ltb, eqb}
-use lib.ListN.{getD, take, drop}
+use lib.ListN.{getD}
 use Rattle.format.specs.Seq.{numbersFrom, upTo, total}
 use Rattle.format.specs.Key.{unwoven}
 use Rattle.format.specs.Trie.{onBits, descend}
-use Rattle.format.specs.Page.{levelsIn, nodeCount, pairsOf, numberAt}
+use Rattle.format.specs.Page.{levelsIn, nodeCount, numberAt, pairsAt}
 
 -- the eight bands
 unfoldable pub bands : List ℕ
@@ -46,7 +46,7 @@ unfoldable pub pageB : List ℕ → ℕ → ℕ → ℕ
 pageB img b i = numberAt img (64 * pageNumber img b i + 2)
 
 unfoldable pub pagePairs : List ℕ → ℕ → ℕ → List ℕ
-pagePairs img b i = flatMap pairsOf (take 60 (drop (64 * pageNumber img b i + 4) img))
+pagePairs img b i = pairsAt img (64 * pageNumber img b i)
 
 -- the page's number of roots, as question 9 says: the next T of the band, or for the last page the band's root count, minus this T
 unfoldable pub nextT : List ℕ → ℕ → ℕ → ℕ

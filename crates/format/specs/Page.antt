@@ -2,7 +2,7 @@
 -- its band is a subtrie.
 -- Assumes nothing.
 use Prim.Native.Nat.{ℕ, zero, suc, _+_, _*_, _/_, _%_, _<_}
-use mathlib.Core.List.{List, [], _∷_}
+use mathlib.Core.List.{List, [], _∷_, flatMap}
 use lib.ListN.{getD, take, drop}
 use Rattle.format.specs.Trie.{onBits}
 
@@ -47,3 +47,7 @@ twoBytes n = n / 256 ∷ n % 256 ∷ []
 
 unfoldable pub numberAt : List ℕ → ℕ → ℕ
 numberAt bytes at = 256 * getD bytes at 0 + getD bytes (at + 1) 0
+
+-- the 240 pairs of the page at a place: T and B take its first four bytes, and the pairs the other 60
+abbrev pub pairsAt : List ℕ → ℕ → List ℕ
+pairsAt bytes at = flatMap pairsOf (take 60 (drop (at + 4) bytes))

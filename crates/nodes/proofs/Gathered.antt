@@ -11,7 +11,7 @@ use lib.Bits.{bitOr, or-shifted-r}
 use lib.Count.{ones, onesIn}
 use Rattle.format.specs.Seq.{All, numbersFrom}
 use Rattle.format.specs.Trie.{bits, onBits}
-use Rattle.format.specs.Page.{Byte, pairsOf}
+use Rattle.format.specs.Page.{Byte, pairsAt, pairsOf}
 use Rattle.format.proofs.Lists.{all-get, all-take, all-drop, all-append}
 use Rattle.format.proofs.Bytes.{length-pairs, pairs-small}
 use Rattle.format.proofs.Subtries.{onBits-append}
@@ -66,10 +66,6 @@ drop-pairs (suc k) (b ∷ bs) =
     let e : 4 * suc k ≡ suc (suc (suc (suc (4 * k)))) = omega arith in
     ap (λ (n : ℕ). drop n (flatMap pairsOf (b ∷ bs))) e ∙ drop-pairs k bs
 
--- the nodes of the page at a place
-abbrev pub nodesAt : List ℕ → ℕ → List ℕ
-nodesAt bytes at = flatMap pairsOf (take 60 (drop (at + 4) bytes))
-
 module _ (bytes : List ℕ) (small : All Byte bytes) where
   -- m words from i on, then 0
   wordsOn : ℕ → ℕ → List ℕ
@@ -101,16 +97,16 @@ module _ (bytes : List ℕ) (small : All Byte bytes) where
 
   module _ (at : ℕ) (fits : at + 64 ≤ length bytes) where
     -- with 16 nodes f before the page's
-    words-of : (f : ℕ) → val 0 (replicate 16 f ++ take 16 (nodesAt bytes at)) ∷ wordsOn 7 (at + 8) ≡ wordsFrom 9 (replicate 16 f ++ nodesAt bytes at)
+    words-of : (f : ℕ) → val 0 (replicate 16 f ++ take 16 (pairsAt bytes at)) ∷ wordsOn 7 (at + 8) ≡ wordsFrom 9 (replicate 16 f ++ pairsAt bytes at)
     unfolding wordsFrom
     words-of f =
         let e : at + 8 ≡ at + 4 + 4 = omega arith in
         let later : take 56 (drop (at + 8) bytes) ≡ drop 4 (take 60 (drop (at + 4) bytes)) =
         ap (take 56) (ap (λ (x : ℕ). drop x bytes) e ∙ sym (drop-drop 4 (at + 4) bytes)) ∙ sym (drop-take 4 56 (drop (at + 4) bytes)) in
-        ap (val 0 (replicate 16 f ++ take 16 (nodesAt bytes at)) ∷_)
+        ap (val 0 (replicate 16 f ++ take 16 (pairsAt bytes at)) ∷_)
         (words-on 7 (at + 8) (omega arith) ∙ ap (wordsFrom 8) (ap (flatMap pairsOf) later ∙ sym (drop-pairs 4 (take 60 (drop (at + 4) bytes)))))
 
-    first-half : (w : ℕ) → val w (take 16 (nodesAt bytes at)) ≡ w * 4294967296 + halfAt bytes (at + 4)
+    first-half : (w : ℕ) → val w (take 16 (pairsAt bytes at)) ≡ w * 4294967296 + halfAt bytes (at + 4)
     first-half w =
         ap (val w) (take-pairs 4 (take 60 (drop (at + 4) bytes)) ∙ ap (flatMap pairsOf) (take-take 4 60 (drop (at + 4) bytes) (omega arith)))
         ∙ half-val bytes small w (at + 4) (omega arith)
@@ -126,37 +122,37 @@ module _ (bytes : List ℕ) (small : All Byte bytes) where
         let e₇ : at + 56 ≡ at + 8 + 8 + 8 + 8 + 8 + 8 + 8 = omega arith in
         λ i. halfAt bytes (at + 4) ∷ wordAt bytes (at + 8) ∷ wordAt bytes (e₂ i) ∷ wordAt bytes (e₃ i) ∷ wordAt bytes (e₄ i) ∷ wordAt bytes (e₅ i) ∷ wordAt bytes (e₆ i) ∷ wordAt bytes (e₇ i) ∷ 0 ∷ []
 
-    words-from : wordsIn bytes at ≡ wordsFrom 9 (replicate 16 0 ++ nodesAt bytes at)
+    words-from : wordsIn bytes at ≡ wordsFrom 9 (replicate 16 0 ++ pairsAt bytes at)
     unfolding val
     words-from =
-        let e : halfAt bytes (at + 4) ≡ val 0 (replicate 16 0 ++ take 16 (nodesAt bytes at)) = sym (first-half 0 ∙ omega arith) in
+        let e : halfAt bytes (at + 4) ≡ val 0 (replicate 16 0 ++ take 16 (pairsAt bytes at)) = sym (first-half 0 ∙ omega arith) in
         words-are ∙ ap (_∷ wordsOn 7 (at + 8)) e ∙ words-of 0
 
     -- the words with the 16 places before the first node taken for 11
-    pub words-filled : filledUp (wordsIn bytes at) ≡ wordsFrom 9 (replicate 16 3 ++ nodesAt bytes at)
+    pub words-filled : filledUp (wordsIn bytes at) ≡ wordsFrom 9 (replicate 16 3 ++ pairsAt bytes at)
     unfolding filledUp numbersFrom wordsOn val
     words-filled =
-        let e : bitOr (halfAt bytes (at + 4)) 0xffff_ffff_0000_0000 ≡ val 0 (replicate 16 3 ++ take 16 (nodesAt bytes at)) =
+        let e : bitOr (halfAt bytes (at + 4)) 0xffff_ffff_0000_0000 ≡ val 0 (replicate 16 3 ++ take 16 (pairsAt bytes at)) =
         or-shifted-r 4294967295 32 (halfAt bytes (at + 4)) (half-small (at + 4)) ∙ sym (first-half 4294967295) in
         ap filledUp words-are ∙ ap (_∷ wordsOn 7 (at + 8)) e ∙ words-of 3
 
-    pub nodes-small : Nodes (nodesAt bytes at)
+    pub nodes-small : Nodes (pairsAt bytes at)
     nodes-small = pairs-small (take 60 (drop (at + 4) bytes)) (all-take Byte 60 (drop (at + 4) bytes) (all-drop Byte (at + 4) bytes small))
 
-    pub length-nodes : length (nodesAt bytes at) ≡ 240
+    pub length-nodes : length (pairsAt bytes at) ≡ 240
     length-nodes = omega (arith, length-pairs (take 60 (drop (at + 4) bytes)), length-take 60 (drop (at + 4) bytes), length-drop (at + 4) bytes)
 
     -- the page's nodes with 16 times 00 before them
     qs : List ℕ
-    qs = replicate 16 0 ++ nodesAt bytes at
+    qs = replicate 16 0 ++ pairsAt bytes at
 
     qs-small : Nodes qs
     unfolding qs
-    qs-small = all-append (λ d. d ≤ 3) (replicate 16 0) (nodesAt bytes at) (nodes-same 0 16 (omega arith)) nodes-small
+    qs-small = all-append (λ d. d ≤ 3) (replicate 16 0) (pairsAt bytes at) (nodes-same 0 16 (omega arith)) nodes-small
 
     length-qs : length qs ≡ 256
     unfolding qs
-    length-qs = length-append (replicate 16 0) (nodesAt bytes at) ∙ omega (arith, length-nodes)
+    length-qs = length-append (replicate 16 0) (pairsAt bytes at) ∙ omega (arith, length-nodes)
 
     part : ℕ → List ℕ
     part j = take 32 (drop (32 * j) qs)
@@ -195,7 +191,7 @@ module _ (bytes : List ℕ) (small : All Byte bytes) where
     ]
 
     -- the on bits of the first n nodes
-    pub on-bits-law : (n : ℕ) → n ≤ 240 → onesBefore (wordsIn bytes at) (countsBefore 0 (wordsIn bytes at)) n ≡ onBits (take n (nodesAt bytes at))
+    pub on-bits-law : (n : ℕ) → n ≤ 240 → onesBefore (wordsIn bytes at) (countsBefore 0 (wordsIn bytes at)) n ≡ onBits (take n (pairsAt bytes at))
     unfolding onesBefore
     on-bits-law n h =
         let j : ℕ = (n + 16) / 32 in
@@ -205,10 +201,10 @@ module _ (bytes : List ℕ) (small : All Byte bytes) where
         ∙ sym (onBits-append (take (32 * j) qs) (take k (drop (32 * j) qs)))
         ∙ ap onBits (sym (take-add (32 * j) k qs) ∙ ap (λ (x : ℕ). take x qs) e ∙ take-add 16 n qs)
         ∙ onBits-append (take 16 qs) (take n (drop 16 qs))
-        ∙ (unfold qs onBits bits in zero-add (onBits (take n (nodesAt bytes at))))
+        ∙ (unfold qs onBits bits in zero-add (onBits (take n (pairsAt bytes at))))
 
     -- node n
-    pub node-law : (n : ℕ) → n < 240 → nodeIn (wordsIn bytes at) n ≡ getD (nodesAt bytes at) n 0
+    pub node-law : (n : ℕ) → n < 240 → nodeIn (wordsIn bytes at) n ≡ getD (pairsAt bytes at) n 0
     unfolding nodeIn
     node-law n h =
         let j : ℕ = (n + 16) / 32 in
@@ -221,23 +217,23 @@ module _ (bytes : List ℕ) (small : All Byte bytes) where
         ∙ val-last 0 k ds (omega (arith, length-drop (32 * j) qs, length-qs)) (all-drop (λ d. d ≤ 3) (32 * j) qs qs-small)
         ∙ getD-drop (32 * j) qs k 0
         ∙ ap (λ (x : ℕ). getD qs x 0) f
-        ∙ (unfold qs in getD-append-add (replicate 16 0) (nodesAt bytes at) n 0)
+        ∙ (unfold qs in getD-append-add (replicate 16 0) (pairsAt bytes at) n 0)
 
     -- the on bits of all nodes
-    whole : take 256 qs ≡ replicate 16 0 ++ nodesAt bytes at
+    whole : take 256 qs ≡ replicate 16 0 ++ pairsAt bytes at
     unfolding qs
     whole = take-all 256 qs (omega (arith, length-qs))
 
-    pub total-law : getD (countsBefore 0 (wordsIn bytes at)) 8 0 ≡ onBits (nodesAt bytes at)
+    pub total-law : getD (countsBefore 0 (wordsIn bytes at)) 8 0 ≡ onBits (pairsAt bytes at)
     total-law =
         before-is 8 (omega arith)
         ∙ ap onBits whole
-        ∙ onBits-append (replicate 16 0) (nodesAt bytes at)
-        ∙ (unfold onBits bits in zero-add (onBits (nodesAt bytes at)))
+        ∙ onBits-append (replicate 16 0) (pairsAt bytes at)
+        ∙ (unfold onBits bits in zero-add (onBits (pairsAt bytes at)))
 
     -- word 7 has the last 32 nodes
-    pub last-word : getD (wordsIn bytes at) 7 0 ≡ val 0 (drop 208 (nodesAt bytes at))
+    pub last-word : getD (wordsIn bytes at) 7 0 ≡ val 0 (drop 208 (pairsAt bytes at))
     last-word = word-is 7 (omega arith) ∙ ap (val 0) last-part
       where
-        last-part : part 7 ≡ drop 208 (nodesAt bytes at)
-        last-part = unfold part qs in take-all 32 (drop 208 (nodesAt bytes at)) (omega (arith, length-drop 208 (nodesAt bytes at), length-nodes))
+        last-part : part 7 ≡ drop 208 (pairsAt bytes at)
+        last-part = unfold part qs in take-all 32 (drop 208 (pairsAt bytes at)) (omega (arith, length-drop 208 (pairsAt bytes at), length-nodes))

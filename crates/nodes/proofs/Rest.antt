@@ -14,14 +14,14 @@ use lib.Pow.{pow-pos, split}
 use lib.Seq.{drop-drop}
 use Rattle.format.specs.Seq.{All, every}
 use Rattle.format.specs.Trie.{onBits}
-use Rattle.format.specs.Page.{Byte}
+use Rattle.format.specs.Page.{Byte, pairsAt}
 use Rattle.format.specs.Question.{isZero}
 use Rattle.format.proofs.Checked.{cond-yes, cond-no}
 use Rattle.format.proofs.Lists.{all-drop, all-take}
 use Rattle.format.proofs.Subtries.{onBits-split}
 use Rattle.nodes.specs.Words.{countsBefore, restEmpty, wordsIn}
 use Rattle.nodes.proofs.Numbers.{Nodes, val, val-take, ones-val}
-use Rattle.nodes.proofs.Gathered.{nodesAt, nodes-small, length-nodes, on-bits-law, total-law, last-word}
+use Rattle.nodes.proofs.Gathered.{nodes-small, length-nodes, on-bits-law, total-law, last-word}
 use Rattle.nodes.proofs.Used.{all-empty, rest-empty-law}
 
 -- a number without set bits is 0
@@ -76,17 +76,17 @@ module _ (ds : List ℕ) (h : Nodes ds) (long : length ds ≡ 32) (k : ℕ) (hi 
 
 -- of a page
 pub rest-empty-words : (bytes : List ℕ) → All Byte bytes → (at n : ℕ) → at + 64 ≤ length bytes → n ≤ 240
-    → restEmpty (wordsIn bytes at) (countsBefore 0 (wordsIn bytes at)) n ≡ every isZero (drop n (nodesAt bytes at))
+    → restEmpty (wordsIn bytes at) (countsBefore 0 (wordsIn bytes at)) n ≡ every isZero (drop n (pairsAt bytes at))
 unfolding restEmpty
 rest-empty-words bytes small at n fits h = go (ltb 208 n) refl
   where
     ps : List ℕ
-    ps = nodesAt bytes at
+    ps = pairsAt bytes at
 
     ds : List ℕ
-    ds = drop 208 (nodesAt bytes at)
+    ds = drop 208 (pairsAt bytes at)
 
-    go : (t : Bool) → ltb 208 n ≡ t → restEmpty (wordsIn bytes at) (countsBefore 0 (wordsIn bytes at)) n ≡ every isZero (drop n (nodesAt bytes at))
+    go : (t : Bool) → ltb 208 n ≡ t → restEmpty (wordsIn bytes at) (countsBefore 0 (wordsIn bytes at)) n ≡ every isZero (drop n (pairsAt bytes at))
     go true t =
         let big : 208 < n = ltb-true 208 n t in
         let k : ℕ = n - 208 in

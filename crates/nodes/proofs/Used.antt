@@ -13,13 +13,13 @@ use lib.Seq.{take-add, take-take}
 use lib.Bits.{bitAnd, bitOr, and-block, or-block, or-lt}
 use Rattle.format.specs.Seq.{All, every}
 use Rattle.format.specs.Trie.{bits, onBits}
-use Rattle.format.specs.Page.{Byte}
+use Rattle.format.specs.Page.{Byte, pairsAt}
 use Rattle.format.specs.Question.{isPositive, isZero}
 use Rattle.format.proofs.Lists.{all-take, all-drop, all-append}
 use Rattle.format.proofs.Subtries.{onBits-split}
 use Rattle.nodes.specs.Words.{lowBits, usedNodes, allUsed, noneEmpty, wordsIn}
 use Rattle.nodes.proofs.Numbers.{Nodes, nodes-same, val, val-take}
-use Rattle.nodes.proofs.Gathered.{wordsFrom, nodesAt, nodes-small, length-nodes, words-filled}
+use Rattle.nodes.proofs.Gathered.{wordsFrom, nodes-small, length-nodes, words-filled}
 
 -- ---- in one word
 
@@ -165,10 +165,10 @@ all-used (suc m) n qs h e s l = go (ltb 32 n) refl (all-used m (n - 32) (drop 32
 
 -- none of the first n nodes of a page is 00
 pub none-empty-law : (bytes : List ℕ) → All Byte bytes → (at n : ℕ) → at + 64 ≤ length bytes → n ≤ 240
-    → noneEmpty (wordsIn bytes at) n ≡ every isPositive (take n (nodesAt bytes at))
+    → noneEmpty (wordsIn bytes at) n ≡ every isPositive (take n (pairsAt bytes at))
 unfolding noneEmpty
 none-empty-law bytes small at n fits h =
-    let ps : List ℕ = nodesAt bytes at in
+    let ps : List ℕ = pairsAt bytes at in
     let qs : List ℕ = replicate 16 3 ++ ps in
     let f : n + 16 ≡ 16 + n = omega arith in
     ap (λ (ws : List ℕ). allUsed ws (n + 16)) (words-filled bytes small at fits)

@@ -8,7 +8,7 @@ use lib.ListN.{length, getD, take, drop, replicate, length-append, length-drop, 
 use lib.Seq.{drop-at, drop-drop}
 use Rattle.format.specs.Seq.{All}
 use Rattle.format.specs.Trie.{nodesOver, onBits, bits}
-use Rattle.format.specs.Page.{Byte, nodeBytes, nodeCount, pairsOf, twoBytes}
+use Rattle.format.specs.Page.{Byte, nodeBytes, nodeCount, pairsAt, pairsOf, twoBytes}
 use Rattle.format.specs.Writer.{pageBytes, rootsIn}
 use Rattle.format.proofs.Lists.{all-append}
 use Rattle.format.proofs.Bytes.{length-flatten, length-nodeBytes, nodes-flatten, nodes-small, bytes-back, zeros-all}
@@ -50,7 +50,7 @@ module _ (page q : List ℕ) (count : ℕ) (head : Head) (g : PageRoom page q co
     (begun : p₁ ≡ twoBytes (head .t .0) ++ (twoBytes (head .b .0) ++ (replicate 60 0 ++ drop 64 page))) where
   no-nodes : nodesOf p₁ ≡ replicate 240 0
   unfolding nodesOf twoBytes pairsOf flatMap
-  no-nodes = ap (λ (p : List ℕ). flatMap pairsOf (take 60 (drop 4 p))) begun
+  no-nodes = ap (λ (p : List ℕ). pairsAt p 0) begun
 
   begun-room : 64 ≤ length p₁
   unfolding twoBytes

@@ -1,7 +1,7 @@
 -- A page's nodes filled in from the last to the first, a byte at a time: the byte of the current node is held back until it is left.
 -- Assumes nothing.
 use mathlib.Core.Path.{_≡_, refl, sym, ap, _∙_}
-use mathlib.Core.List.{List, [], _∷_, _++_, append-nil, flatMap}
+use mathlib.Core.List.{List, [], _∷_, _++_, append-nil}
 use Prim.Native.Nat.{ℕ, suc, _+_, _/_, _%_, _≤_, _<_}
 use native.Mathlib.Omega.{arith}
 use native.Mathlib.Decide.{ℕ-discrete}
@@ -10,7 +10,7 @@ use lib.ListN.{length, getD, take, drop, set, replicate, length-append, length-d
 use lib.Seq.{length-take-le, getD-set-same, set-set, set-getD, set-append-left, getD-append-add, drop-drop}
 use Rattle.format.specs.Seq.{All}
 use Rattle.format.specs.Trie.{bitOf}
-use Rattle.format.specs.Page.{nodeBytes, pairsOf, Byte}
+use Rattle.format.specs.Page.{nodeBytes, pairsAt, Byte}
 use Rattle.format.proofs.Lists.{all-at}
 use Rattle.format.proofs.Bytes.{length-nodeBytes, nodeBytes-small, bytes-back}
 use Rattle.page_writer.specs.Page.{nodesOf, withNodes, bitIn, pageLeft, byteLeft}
@@ -51,8 +51,8 @@ pub with-own : (page : List ℕ) → 64 ≤ length page → withNodes page (node
 unfolding withNodes nodesOf
 with-own page room =
     let n : length (take 60 (drop 4 page)) ≡ 60 = length-take-le 60 (drop 4 page) (omega (arith, length-drop 4 page)) in
-    let b : nodeBytes 60 (flatMap pairsOf (take 60 (drop 4 page))) ≡ take 60 (drop 4 page) =
-    ap (λ (k : ℕ). nodeBytes k (flatMap pairsOf (take 60 (drop 4 page)))) (sym n) ∙ bytes-back (take 60 (drop 4 page)) (flatMap pairsOf (take 60 (drop 4 page))) [] (sym (append-nil _)) tt in
+    let b : nodeBytes 60 (pairsAt page 0) ≡ take 60 (drop 4 page) =
+    ap (λ (k : ℕ). nodeBytes k (pairsAt page 0)) (sym n) ∙ bytes-back (take 60 (drop 4 page)) (pairsAt page 0) [] (sym (append-nil _)) tt in
     ap (λ (l : List ℕ). take 4 page ++ (l ++ drop 64 page)) b ∙ cut page
   where
     cut : (page : List ℕ) → take 4 page ++ (take 60 (drop 4 page) ++ drop 64 page) ≡ page

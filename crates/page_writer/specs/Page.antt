@@ -2,13 +2,13 @@
 -- Assumes nothing.
 use mathlib.Core.Path.{_≡_}
 use mathlib.Core.Bool.{true, cond}
-use mathlib.Core.List.{List, [], _++_, flatMap, flatten}
+use mathlib.Core.List.{List, [], _++_, flatten}
 use Prim.Native.Nat.{ℕ, _+_, _-_, _*_, _/_, _%_, _^_, _≤_, _<_}
 use lib.Dec.{eqb}
 use lib.ListN.{length, getD, take, drop, set, replicate}
 use Rattle.format.specs.Seq.{All}
 use Rattle.format.specs.Trie.{parents, nodesOver, onBits, bitOf}
-use Rattle.format.specs.Page.{nodeBytes, pairsOf, nodeCount}
+use Rattle.format.specs.Page.{nodeBytes, nodeCount, pairsAt}
 use Rattle.format.specs.Writer.{ascending, pageBytes, rootsIn}
 use Rattle.packing.specs.Run.{bandAbove, rootsAbove}
 use Rattle.packing.specs.Memory.{FreeFrom}
@@ -17,7 +17,7 @@ use Rattle.page_writer.specs.declared.Level.{Level}
 
 -- the 240 nodes of a page, and a page with other nodes
 unfoldable pub nodesOf : List ℕ → List ℕ
-nodesOf page = flatMap pairsOf (take 60 (drop 4 page))
+nodesOf page = pairsAt page 0
 
 unfoldable pub withNodes : List ℕ → List ℕ → List ℕ
 withNodes page nodes = take 4 page ++ (nodeBytes 60 nodes ++ drop 64 page)

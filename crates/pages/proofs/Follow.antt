@@ -7,7 +7,7 @@ use native.Mathlib.Numerals.{add-one}
 use native.Mathlib.Decide.{decLt}
 use native.Mathlib.Omega.{arith}
 use lib.ListN.{length, getD, take}
-use Rattle.format.specs.Page.{Byte}
+use Rattle.format.specs.Page.{Byte, pairsAt}
 use Rattle.format.specs.Trie.{onBits}
 use Rattle.format.specs.Answer.{absent, lookupAnswer}
 use Rattle.format.specs.Image.{pagePairs, pageT}
@@ -20,7 +20,6 @@ use Rattle.format.proofs.Levels.{depth, prefixesAt, childPlace}
 use Rattle.format.proofs.Walk.{Reached, Out, reached-root, reached-place, reached-child, reached-out}
 use Rattle.nodes.specs.declared.Words.{Words}
 use Rattle.nodes.specs.Words.{halfAt, nodeIn, onesBefore, wordsIn}
-use Rattle.nodes.proofs.Gathered.{nodesAt}
 use Rattle.nodes.proofs.Calls.{all-counted, counted, node-read}
 use Rattle.pages.specs.declared.Page.{Page}
 use Rattle.pages.specs.Page.{Ready, PageRead, childIn}
@@ -66,15 +65,15 @@ module _ {img : List ℕ} {page : Page} (r : Ready img) (d : PageRead img page) 
 
   pub page-node : (p : ℕ) → p < 240 → nodeIn (page .words .word) p ≡ getD (pagePairs img (page .band) (page .index)) p 0
   unfolding pagePairs
-  page-node p h = node-read img (bytes r) (64 * page .number) page-fits (page .words) (d .words) p h ∙ ap (λ (n : ℕ). getD (nodesAt img (64 * n)) p 0) (d .number)
+  page-node p h = node-read img (bytes r) (64 * page .number) page-fits (page .words) (d .words) p h ∙ ap (λ (n : ℕ). getD (pairsAt img (64 * n)) p 0) (d .number)
 
   pub page-marks : (p : ℕ) → p ≤ 240 → onesBefore (page .words .word) (page .words .before) p ≡ marks (pagePairs img (page .band) (page .index)) p
   unfolding pagePairs marks
-  page-marks p h = counted img (bytes r) (64 * page .number) page-fits (page .words) (d .words) p h ∙ ap (λ (n : ℕ). onBits (take p (nodesAt img (64 * n)))) (d .number)
+  page-marks p h = counted img (bytes r) (64 * page .number) page-fits (page .words) (d .words) p h ∙ ap (λ (n : ℕ). onBits (take p (pairsAt img (64 * n)))) (d .number)
 
   pub page-on-bits : getD (page .words .before) 8 0 ≡ onBits (pagePairs img (page .band) (page .index))
   unfolding pagePairs
-  page-on-bits = all-counted img (bytes r) (64 * page .number) page-fits (page .words) (d .words) ∙ ap (λ (n : ℕ). onBits (nodesAt img (64 * n))) (d .number)
+  page-on-bits = all-counted img (bytes r) (64 * page .number) page-fits (page .words) (d .words) ∙ ap (λ (n : ℕ). onBits (pairsAt img (64 * n))) (d .number)
 
   -- word 0 is four bytes
   pub page-first : getD (page .words .word) 0 0 < 4294967296

@@ -1,6 +1,6 @@
 -- A subtrie read at a spot, and the spot after it.
 -- Assumes nothing.
-use mathlib.Core.List.{List, flatMap, List·Memᴰ, Memᴰ·cast}
+use mathlib.Core.List.{List, List·Memᴰ, Memᴰ·cast}
 use mathlib.Core.Path.{_≡_, refl, sym, ap, ap₂, subst, _∙_}
 use Prim.Native.Nat.{ℕ, suc, _+_, _-_, _*_, _/_, _%_, _^_, _≤_, _<_}
 use native.Mathlib.Nat.{zero-add}
@@ -9,7 +9,7 @@ use lib.Count.{ones}
 use lib.ListN.{length, getD, take, drop, length-drop}
 use lib.Seq.{getD-drop, getD-take, length-take-le}
 use Rattle.format.specs.Seq.{rankIn}
-use Rattle.format.specs.Page.{Byte, pairsOf}
+use Rattle.format.specs.Page.{Byte, pairsAt}
 use Rattle.format.specs.Image.{pageB, pageNodes, pageNumber, pagePairs, pageRoots, pageT}
 use Rattle.format.proofs.Descent.{asc-lt, isIn-mem, mem-at}
 use Rattle.format.proofs.Lists.{all-take, all-drop}
@@ -59,7 +59,7 @@ module _ {img : List ℕ} (r : Ready img) {b : ℕ} (lo : 1 ≤ b) (hi : b ≤ 8
         ap (λ (l : List ℕ). getD l (4 + j / 4) 0) ep ∙ rw (getD-take, getD-drop, getD-take, getD-drop) (ap (λ (q : ℕ). getD img q 0) (let m : at + (4 + j / 4) ≡ at + 4 + j / 4 = omega arith in m)) in
         ap (λ (v : ℕ). v / 4 ^ (3 - j % 4) % 4) e
         ∙ sym (pair-at (take 60 (drop (at + 4) img)) j (all-take Byte 60 (drop (at + 4) img) (all-drop Byte (at + 4) img (bytes r))))
-        ∙ ap (λ (q : ℕ). getD (flatMap pairsOf (take 60 (drop (q + 4) img))) j 0) (s .at-is)
+        ∙ ap (λ (q : ℕ). getD (pairsAt img q) j 0) (s .at-is)
 
     -- the first node of a level
     module _ {l w base p : ℕ} (c : LevelStart img b (s .i) l w base p) where

@@ -5,10 +5,10 @@ use Prim.Native.Nat.{ℕ, _+_, _-_, _≤_}
 use native.Mathlib.Omega.{arith}
 use borrow.Author.Tests.{not-true, not-false}
 use denote.Ref.{now}
+use Rattle.format.specs.Page.{pairsAt}
 use Rattle.format.proofs.Counting.{marks}
 use Rattle.nodes.specs.declared.Words.{Words}
 use Rattle.nodes.proofs.Numbers.{bytes-of}
-use Rattle.checker.specs.Paged.{pairsAt}
 use Rattle.checker.proofs.Shapes.{Known, Second, Third, Fourth, Ended, second, third, fourth, ended, first-second, first-third, first-fourth, over-fourth, over-end, empty-found, rest-found, refused-nodes, refused-shape, links-few, after-full, after-other, not-needed}
 use borrow.Author.Needs.{needs}
 use Rattle.checker.proofs.page.check_shape.Statement.{statement}
