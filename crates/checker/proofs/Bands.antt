@@ -13,7 +13,7 @@ use lib.Dec.{eqb, ltb}
 use lib.ListN.{length, getD}
 use Rattle.format.specs.Seq.{total, upTo, numbersFrom}
 use Rattle.format.specs.Trie.{onBits}
-use Rattle.format.specs.Page.{firstSubtries, levelsIn, nodeCount, numberAt}
+use Rattle.format.specs.Page.{firstSubtries, levelsIn, nodeCount, numberAt, pairsAt}
 use Rattle.format.specs.Image.{nextT, outLinkCount, pageB, pageCount, pageLevels, pageNodes, pageNumber, pagePairs, pageRoots, pageT, pagesBefore, rootCount}
 use Rattle.format.specs.Question.{Question, bandQuestions, firstNo, headRight, isZero, noRoom, outLinksDue, pageNeeded, pageQuestions}
 use Rattle.format.proofs.Checked.{cond-yes}
@@ -22,7 +22,7 @@ use Rattle.format.proofs.Read.{pages-within}
 use Rattle.format.proofs.Questions.{after-no, after-yes, asked-no, asked-yes, next-turn, no-at-turn, yes-of-none}
 use Rattle.checker.specs.declared.page.Shape.{Shape}
 use Rattle.header.specs.Refusal.{refusalOf}
-use Rattle.checker.specs.Paged.{questionsAfter, questionsAt, PageAsked, BandAt}
+use Rattle.checker.specs.Paged.{questionsAfter, questionsAt, Asked, BandAt}
 
 -- ---- what the pages before page i of band b ask of its T and B, and the nodes of the page before it: 241 before a band's first page
 
@@ -77,11 +77,11 @@ module _ (img : List ℕ) (b : ℕ) where
       right n = unfold questionsAt pageT in asked-no 8 _ _ (ap (_&& eqb (numberAt img (64 * pageNumber img b i + 2)) (bDue img b i)) (ne-eqb (pageT img b i) (tDue img b i) n))
 
   -- what a yes throughout says of page i, with s as its counts
-  module _ (i : ℕ) (h : i < pageCount img b) (s : Shape) (asked : PageAsked img (64 * pageNumber img b i) (tDue img b i) (bDue img b i) (nextT img b i) (nodesDue img b i) s)
+  module _ (i : ℕ) (h : i < pageCount img b) (s : Shape) (asked : Asked (placed img b i) (pagePairs img b i) (nextT img b i - tDue img b i) s)
       (fine : s .refusal ≡ 0) where
     all-yes : firstNo (placed img b i) ≡ none
     unfolding refusalOf
-    all-yes = sym (asked .asked) ∙ ap refusalOf fine
+    all-yes = sym (asked .first-no) ∙ ap refusalOf fine
 
     eight : eqb (pageT img b i) (tDue img b i) && eqb (pageB img b i) (bDue img b i) ≡ true
     unfolding questionsAt pageT pageB
@@ -98,11 +98,11 @@ module _ (img : List ℕ) (b : ℕ) where
     roots-are = ap (nextT img b i -_) (sym t-is)
 
     pub links-counted : s .links ≡ outLinkCount img b i
-    unfolding outLinkCount pageLevels pagePairs
+    unfolding outLinkCount pageLevels
     links-counted = asked .counted fine .links-are ∙ ap (λ (n : ℕ). onBits (getD (levelsIn 4 n (pagePairs img b i)) 3 [])) roots-are
 
     pub nodes-counted : s .nodes ≡ pageNodes img b i
-    unfolding pageNodes pageLevels pagePairs
+    unfolding pageNodes pageLevels
     nodes-counted = asked .counted fine .nodes-are ∙ ap (λ (n : ℕ). nodeCount n (levelsIn 4 n (pagePairs img b i))) roots-are
 
     pub page-yes : firstNo (pageQuestions img b i) ≡ none
@@ -149,13 +149,15 @@ loop-no f i n zero rs h so-far nonzero e = absurd (nonzero refl)
 loop-no f i n (suc x) rs h so-far nonzero e = sym (after-no (flatMap f (upTo n)) rs (suc x) (no-at-turn f i n (suc x) h so-far (sym e)))
 
 module _ (img : List ℕ) (b i t links nodes : ℕ) (a : Asking img b i t links nodes) where
-  module _ (h : i < pageCount img b) (at next : ℕ) (place : at ≡ 64 * pageNumber img b i) (next-is : next ≡ nextT img b i) (s : Shape) (asked : PageAsked img at t links next nodes s) where
-    placed-asked : PageAsked img (64 * pageNumber img b i) (tDue img b i) (bDue img b i) (nextT img b i) (nodesDue img b i) s
+  module _ (h : i < pageCount img b) (at next : ℕ) (place : at ≡ 64 * pageNumber img b i) (next-is : next ≡ nextT img b i) (s : Shape)
+      (asked : Asked (questionsAt img at t links next nodes) (pairsAt img at) (next - t) s) where
+    placed-asked : Asked (placed img b i) (pagePairs img b i) (nextT img b i - tDue img b i) s
+    unfolding pagePairs
     placed-asked = rw (place, a .t-due, a .links-due, next-is, a .nodes-due) at asked
 
     pub asking-no : (s .refusal ≡ 0 → ⊥) → refusalOf (s .refusal) ≡ firstNo (bandQuestions img b)
     unfolding bandQuestions
-    asking-no n = loop-no (pageQuestions img b) i (pageCount img b) (s .refusal) _ h (a .so-far) n (placed-asked .asked ∙ sym (page-first img b i h))
+    asking-no n = loop-no (pageQuestions img b) i (pageCount img b) (s .refusal) _ h (a .so-far) n (placed-asked .first-no ∙ sym (page-first img b i h))
 
     pub asking-next : s .refusal ≡ 0 → Asking img b (i + 1) next (links + s .links) (s .nodes)
     asking-next fine =
@@ -208,7 +210,8 @@ turn-start img b first pages roots h p r = record {
 }
 
 module _ {img : List ℕ} {b first pages roots i t links nodes : ℕ} (u : Turn img b first pages roots i t links nodes) where
-  module _ (h : i < pages) (next : ℕ) (next-is : next ≡ cond (ltb (i + 1) pages) (numberAt img (64 * (first + (i + 1)))) roots) (s : Shape) (asked : PageAsked img (64 * (first + i)) t links next nodes s) where
+  module _ (h : i < pages) (next : ℕ) (next-is : next ≡ cond (ltb (i + 1) pages) (numberAt img (64 * (first + (i + 1)))) roots) (s : Shape)
+      (asked : Asked (questionsAt img (64 * (first + i)) t links next nodes) (pairsAt img (64 * (first + i))) (next - t) s) where
     more : i < pageCount img b
     more = omega (arith, u .pages-are)
 

@@ -12,7 +12,7 @@ use Rattle.format.specs.Question.{Question, firstNo, nodeQuestions}
 use Rattle.format.proofs.Questions.{after-no, after-yes, asked-no, asked-yes}
 use Rattle.checker.specs.declared.page.Shape.{Shape}
 use Rattle.header.specs.Refusal.{refusalOf}
-use Rattle.checker.specs.Paged.{questionsAfter, questionsAt, Shaped, PageAsked}
+use Rattle.checker.specs.Paged.{questionsAfter, questionsAt, Asked}
 
 -- ---- the number of the first no
 
@@ -30,16 +30,6 @@ passed-first x qs rs z e = after-yes qs rs (sym (sym (ap refusalOf z) ∙ e))
 -- ---- a page
 
 module _ (img : List ℕ) (at t b next previous : ℕ) where
-  -- the page is refused, and no count is taken
-  pub refused-page : {n : ℕ} (s : Shape) → some (suc n) ≡ firstNo (questionsAt img at t b next previous)
-      → (s .refusal ≡ suc n) × (s .nodes ≡ 0) × (s .links ≡ 0) → PageAsked img at t b next previous s
-  unfolding refusalOf
-  refused-page s e h = record {
-    asked = ap refusalOf (h .0) ∙ e;
-    counted = λ z. absurd (omega arith);
-    bounded = record { few-nodes = omega arith; few-links = omega arith };
-  }
-
   module _ (x : ℕ) (ex : x ≡ numberAt img at) where
     pub wrong-t : (x ≡ t → ⊥) → some 8 ≡ firstNo (questionsAt img at t b next previous)
     unfolding questionsAt
@@ -52,7 +42,7 @@ module _ (img : List ℕ) (at t b next previous : ℕ) where
 
       module _ (right-b : y ≡ b) where
         -- 9 to 12 are left to ask
-        past-8 : firstNo (questionsAt img at t b next previous) ≡ firstNo (questionsAfter previous (next - t) (pairsAt img at))
+        past-8 : firstNo (questionsAt img at t b next previous) ≡ firstNo (questionsAfter img at (next - t) previous)
         unfolding questionsAt
         past-8 = asked-yes 8 _ _ (ap₂ _&&_ (eq-eqb (numberAt img at) t (sym ex ∙ right-t)) (eq-eqb (numberAt img (at + 2)) b (sym ey ∙ right-b)))
 
@@ -64,5 +54,6 @@ module _ (img : List ℕ) (at t b next previous : ℕ) where
         unfolding questionsAfter nodeQuestions
         many-roots h = sym (past-8 ∙ asked-no 9 _ _ (ap₂ _&&_ (le-leb 1 (next - t) (omega arith)) (lt-leb (next - t) 60 h)))
 
-        pub by-shape : (s : Shape) → Shaped (pairsAt img at) (next - t) previous s → PageAsked img at t b next previous s
-        by-shape s shape = record { asked = shape .asked ∙ sym past-8; counted = shape .counted; bounded = shape .bounded }
+        pub by-shape : (s : Shape) → Asked (questionsAfter img at (next - t) previous) (pairsAt img at) (next - t) s
+            → Asked (questionsAt img at t b next previous) (pairsAt img at) (next - t) s
+        by-shape s shape = record { first-no = shape .first-no ∙ sym past-8; counted = shape .counted; bounded = shape .bounded }

@@ -11,7 +11,7 @@ use lib.ListN.{length, take, drop, getD}
 use Rattle.format.specs.Seq.{All, every}
 use Rattle.format.specs.Trie.{bits, onBits}
 use Rattle.format.specs.Page.{Byte, firstSubtries, levelsIn, nodeCount, pairsAt}
-use Rattle.format.specs.Question.{firstNo, isPositive, isZero, noRoom, nodeQuestions}
+use Rattle.format.specs.Question.{Question, firstNo, isPositive, isZero, noRoom, nodeQuestions}
 use Rattle.format.proofs.Lists.{all-drop, and-both, and-right, every-all}
 use Rattle.format.proofs.Bytes.{length-levelsIn, levels-shape}
 use Rattle.format.proofs.Subtries.{first-shape, length-first, node-bounds}
@@ -24,7 +24,7 @@ use Rattle.nodes.proofs.Used.{rest-empty-law}
 use Rattle.nodes.proofs.Calls.{counted, all-counted, none-found-empty, rest-found-empty}
 use Rattle.header.specs.Refusal.{refusalOf}
 use Rattle.checker.specs.declared.page.Shape.{Shape}
-use Rattle.checker.specs.Paged.{questionsAfter, Shaped}
+use Rattle.checker.specs.Paged.{questionsAfter, Asked}
 use Rattle.format.proofs.Questions.{after-no, after-yes, asked-no, asked-yes, none-of-yes, yes-of-none}
 
 -- ---- bounds
@@ -202,19 +202,20 @@ module _ {img : List ℕ} {at r : ℕ} {w : Words} {a b c : ℕ} (f : Fourth img
 
 -- ---- question 12, and what is counted
 
--- what a page that is refused says
-pub refused-shape : {ps : List ℕ} {r v n : ℕ} (s : Shape) → some (suc n) ≡ firstNo (questionsAfter v r ps) → (s .refusal ≡ suc n) × (s .nodes ≡ 0) × (s .links ≡ 0) → Shaped ps r v s
+-- what is found of a page that is refused, whichever questions are asked
+pub refused-page : {qs : List Question} {ps : List ℕ} {r n : ℕ} (s : Shape) → some (suc n) ≡ firstNo qs → (s .refusal ≡ suc n) × (s .nodes ≡ 0) × (s .links ≡ 0) → Asked qs ps r s
 unfolding refusalOf
-refused-shape s e h = record {
-  asked = ap refusalOf (h .0) ∙ e;
+refused-page s e h = record {
+  first-no = ap refusalOf (h .0) ∙ e;
   counted = λ z. absurd (omega arith);
   bounded = record { few-nodes = omega arith; few-links = omega arith };
 }
 
 -- and one that is refused before 12 is asked
-pub refused-nodes : {ps : List ℕ} {r v n : ℕ} (s : Shape) → firstNo (nodeQuestions r ps) ≡ some (suc n) → (s .refusal ≡ suc n) × (s .nodes ≡ 0) × (s .links ≡ 0) → Shaped ps r v s
+pub refused-nodes : (img : List ℕ) (at r v : ℕ) {n : ℕ} (s : Shape) → firstNo (nodeQuestions r (pairsAt img at)) ≡ some (suc n) → (s .refusal ≡ suc n) × (s .nodes ≡ 0) × (s .links ≡ 0)
+    → Asked (questionsAfter img at r v) (pairsAt img at) r s
 unfolding questionsAfter
-refused-nodes {ps} {r} s e h = refused-shape s (sym (after-no (nodeQuestions r ps) _ _ e)) h
+refused-nodes img at r v s e h = refused-page s (sym (after-no (nodeQuestions r (pairsAt img at)) _ _ e)) h
 
 module _ {img : List ℕ} {at r : ℕ} {w : Words} {a b c all : ℕ} (e : Ended img at r w a b c all) where
   pub links-few : c ≤ all
@@ -237,20 +238,20 @@ module _ {img : List ℕ} {at r : ℕ} {w : Words} {a b c all : ℕ} (e : Ended 
   first = nodeCount 1 (firstSubtries 1 (levelsIn 4 r (pairsAt img at)))
 
   -- 12 alone is left to ask
-  past-11 : (v : ℕ) → firstNo (questionsAfter v r (pairsAt img at)) ≡ firstNo ((12, noRoom v (levelsIn 4 r (pairsAt img at))) ∷ [])
+  past-11 : (v : ℕ) → firstNo (questionsAfter img at r v) ≡ firstNo ((12, noRoom v (levelsIn 4 r (pairsAt img at))) ∷ [])
   unfolding questionsAfter
   past-11 v = after-yes (nodeQuestions r (pairsAt img at)) _ (e .asked)
 
-  shaped : (v : ℕ) → 240 < first + v → Shaped (pairsAt img at) r v (record { refusal = 0; nodes = r + c; links = all - c })
+  shaped : (v : ℕ) → 240 < first + v → Asked (questionsAfter img at r v) (pairsAt img at) r (record { refusal = 0; nodes = r + c; links = all - c })
   unfolding refusalOf firstNo noRoom first
   shaped v h = record {
-    asked = sym (past-11 v ∙ asked-yes 12 _ [] (lt-ltb 240 (first + v) h));
+    first-no = sym (past-11 v ∙ asked-yes 12 _ [] (lt-ltb 240 (first + v) h));
     counted = λ z. record { nodes-are = e .before .nodes-are; links-are = links-is };
     bounded = record { few-nodes = e .fits; few-links = omega (arith, e .end-is, marks-few (e .before .before .before .known) (r + c), e .fits) };
   }
 
   -- it has at least four
-  pub after-full : (v : ℕ) → 236 < v → Shaped (pairsAt img at) r v (record { refusal = 0; nodes = r + c; links = all - c })
+  pub after-full : (v : ℕ) → 236 < v → Asked (questionsAfter img at r v) (pairsAt img at) r (record { refusal = 0; nodes = r + c; links = all - c })
   unfolding first nodeQuestions
   after-full v h =
       let k = e .before .before .before .known in
@@ -271,9 +272,9 @@ module _ {img : List ℕ} {at r : ℕ} {w : Words} {a b c all : ℕ} (e : Ended 
         sym (subtrie-counted p r (s .known .some-roots) f (x - a) (y - b) (sym (ef .0)) (omega (arith, s .is))
         (omega (arith, e .before .before .is, ap (marks p) third-is, ap (λ (n : ℕ). marks p (n + (x - a))) third-is)))
 
-    pub after-other : (v : ℕ) → 240 < 1 + f + (x - a) + (y - b) + v → Shaped (pairsAt img at) r v (record { refusal = 0; nodes = r + c; links = all - c })
+    pub after-other : (v : ℕ) → 240 < 1 + f + (x - a) + (y - b) + v → Asked (questionsAfter img at r v) (pairsAt img at) r (record { refusal = 0; nodes = r + c; links = all - c })
     after-other v h = shaped v (omega (arith, first-is))
 
-    pub not-needed : (v : ℕ) → 1 + f + (x - a) + (y - b) + v ≤ 240 → some 12 ≡ firstNo (questionsAfter v r (pairsAt img at))
+    pub not-needed : (v : ℕ) → 1 + f + (x - a) + (y - b) + v ≤ 240 → some 12 ≡ firstNo (questionsAfter img at r v)
     unfolding first noRoom
     not-needed v h = sym (past-11 v ∙ asked-no 12 _ [] (le-ltb 240 (first + v) (omega (arith, first-is))))

@@ -14,13 +14,13 @@ use Rattle.format.specs.Question.{Question, firstNo, noRoom, nodeQuestions}
 use Rattle.checker.specs.declared.page.Shape.{Shape}
 use Rattle.header.specs.Refusal.{refusalOf}
 
--- 9 to 12 of a page of r roots, where the page before has so many nodes
-unfoldable pub questionsAfter : ℕ → ℕ → List ℕ → List Question
-questionsAfter previous r pairs = nodeQuestions r pairs ++ (12, noRoom previous (levelsIn 4 r pairs)) ∷ []
+-- 9 to 12 of the page at a place, of r roots, where the page before has so many nodes
+unfoldable pub questionsAfter : List ℕ → ℕ → ℕ → ℕ → List Question
+questionsAfter img at r previous = nodeQuestions r (pairsAt img at) ++ (12, noRoom previous (levelsIn 4 r (pairsAt img at))) ∷ []
 
 -- 8 to 12, where the band's roots below t and its out-links below b stand before the page, and next is the first root after it
 unfoldable pub questionsAt : List ℕ → ℕ → ℕ → ℕ → ℕ → ℕ → List Question
-questionsAt img at t b next previous = (8, eqb (numberAt img at) t && eqb (numberAt img (at + 2)) b) ∷ questionsAfter previous (next - t) (pairsAt img at)
+questionsAt img at t b next previous = (8, eqb (numberAt img at) t && eqb (numberAt img (at + 2)) b) ∷ questionsAfter img at (next - t) previous
 
 -- what is counted in a page of r roots that gets a yes throughout
 pub record Counted (pairs : List ℕ) (r : ℕ) (s : Shape) : Type 0 where
@@ -32,16 +32,10 @@ pub record Bounded (s : Shape) : Type 0 where
   pub few-nodes : s .nodes ≤ 240
   pub few-links : s .links ≤ 480
 
--- what check_shape finds: its `requires` is 9's yes, so it asks 10 to 12
-pub record Shaped (pairs : List ℕ) (r previous : ℕ) (s : Shape) : Type 0 where
-  pub asked : refusalOf (s .refusal) ≡ firstNo (questionsAfter previous r pairs)
+-- what is found of a page of r roots that is asked questions: the first no, and the counts where there is none
+pub record Asked (questions : List Question) (pairs : List ℕ) (r : ℕ) (s : Shape) : Type 0 where
+  pub first-no : refusalOf (s .refusal) ≡ firstNo questions
   pub counted : s .refusal ≡ 0 → Counted pairs r s
-  pub bounded : Bounded s
-
--- what check_page finds
-pub record PageAsked (img : List ℕ) (at t b next previous : ℕ) (s : Shape) : Type 0 where
-  pub asked : refusalOf (s .refusal) ≡ firstNo (questionsAt img at t b next previous)
-  pub counted : s .refusal ≡ 0 → Counted (pairsAt img at) (next - t) s
   pub bounded : Bounded s
 
 -- ---- where the pages stand

@@ -3,10 +3,10 @@ use format::OutLink;
 use format::Root;
 use header::number;
 ghost use mathlib.Core.Path.{_≡_};
-ghost use Prim.Native.Nat.{_+_, _≤_};
+ghost use Prim.Native.Nat.{_+_, _-_, _≤_};
 ghost use lib.ListN.{length};
 ghost use Rattle.format.specs.Page.{pairsAt};
-ghost use Rattle.checker.specs.Paged.{Shaped, PageAsked};
+ghost use Rattle.checker.specs.Paged.{questionsAfter, questionsAt, Asked};
 
 // What the questions of a page find: the number of the first that gets a no, 0 where none does, and then the page's nodes and out-links.
 pub struct Shape {
@@ -25,10 +25,10 @@ fn refused(refusal: u8) -> Shape
     }
 }
 
-// Questions 10 to 12 of the page at `at` with so many roots, after a page of `previous` nodes.
+// Questions 10 to 12 of the page at `at` with so many roots, after a page of `previous` nodes; 9 got a yes.
 fn check_shape(image: &[u8], at: usize, roots: usize, previous: usize) -> Shape
     requires { ⌜ (at + 64 ≤ length (now image)) × (1 ≤ roots) × (roots ≤ 60) × (previous ≤ 241) ⌝ }
-    ensures { λ r. ⌜ Shaped (pairsAt (now (image .entry)) at) roots previous r ⌝ }
+    ensures { λ r. ⌜ Asked (questionsAfter (now (image .entry)) at roots previous) (pairsAt (now (image .entry)) at) roots r ⌝ }
 {
     let words = nodes::gather(image, at);
     let second_on = nodes::on_bits_before(&words.word, &words.before, roots);
@@ -78,7 +78,7 @@ pub(crate) fn check_page(
     previous: usize,
 ) -> Shape
     requires { ⌜ (at + 64 ≤ length (now image)) × (previous ≤ 241) ⌝ }
-    ensures { λ r. ⌜ PageAsked (now (image .entry)) at (t .0) (b .0) (next .0) previous r ⌝ }
+    ensures { λ r. ⌜ Asked (questionsAt (now (image .entry)) at (t .0) (b .0) (next .0) previous) (pairsAt (now (image .entry)) at) (next .0 - t .0) r ⌝ }
 {
     if number(image, at) != t.0 {
         return refused(8);

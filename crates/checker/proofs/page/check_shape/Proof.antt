@@ -9,7 +9,7 @@ use Rattle.format.specs.Page.{pairsAt}
 use Rattle.format.proofs.Counting.{marks}
 use Rattle.nodes.specs.declared.Words.{Words}
 use Rattle.nodes.proofs.Numbers.{bytes-of}
-use Rattle.checker.proofs.Shapes.{Known, Second, Third, Fourth, Ended, second, third, fourth, ended, first-second, first-third, first-fourth, over-fourth, over-end, empty-found, rest-found, refused-nodes, refused-shape, links-few, after-full, after-other, not-needed}
+use Rattle.checker.proofs.Shapes.{Known, Second, Third, Fourth, Ended, second, third, fourth, ended, first-second, first-third, first-fourth, over-fourth, over-end, empty-found, rest-found, refused-nodes, refused-page, links-few, after-full, after-other, not-needed}
 use borrow.Author.Needs.{needs}
 use Rattle.checker.proofs.page.check_shape.Statement.{statement}
 use Rattle.checker.proofs.page.check_shape.Tie as tie
@@ -103,16 +103,16 @@ on-bits-before-requires-2 : tie.Need-on-bits-before-requires-2
 on-bits-before-requires-2 c κs = omega (arith, second-known (c .before .before .before))
 
 returns : tie.Need-returns
-returns c = refused-nodes _ (over-fourth (third-known (c .before .before)) (c .before .if1 .taken)) (c .refused .ensures)
+returns c = refused-nodes _ _ _ _ _ (over-fourth (third-known (c .before .before)) (c .before .if1 .taken)) (c .refused .ensures)
 
 returns-2 : tie.Need-returns-2
-returns-2 c = refused-nodes _ (over-end (fourth-known (c .before .before)) (c .before .if2 .taken)) (c .refused2 .ensures)
+returns-2 c = refused-nodes _ _ _ _ _ (over-end (fourth-known (c .before .before)) (c .before .if2 .taken)) (c .refused2 .ensures)
 
 returns-3 : tie.Need-returns-3
-returns-3 c = refused-nodes _ (empty-found (fourth-known (c .before .before .before .before .before .before)) (c .before .before .before .before .before .if2 .left) _ (c .before .before .none-empty .ensures) (not-true _ (c .before .if3 .taken))) (c .refused3 .ensures)
+returns-3 c = refused-nodes _ _ _ _ _ (empty-found (fourth-known (c .before .before .before .before .before .before)) (c .before .before .before .before .before .if2 .left) _ (c .before .before .none-empty .ensures) (not-true _ (c .before .if3 .taken))) (c .refused3 .ensures)
 
 returns-4 : tie.Need-returns-4
-returns-4 c = refused-nodes _ (rest-found (fourth-known (c .before .before .before .before .before .before .before .before .before .before .before)) (c .before .before .before .before .before .before .before .before .before .before .if2 .left) _ (c .before .before .before .before .before .before .before .none-empty .ensures) (not-false _ (c .before .before .before .before .before .before .if3 .left)) _ (c .before .before .rest-empty .ensures) (not-true _ (c .before .if4 .taken))) (c .refused4 .ensures)
+returns-4 c = refused-nodes _ _ _ _ _ (rest-found (fourth-known (c .before .before .before .before .before .before .before .before .before .before .before)) (c .before .before .before .before .before .before .before .before .before .before .if2 .left) _ (c .before .before .before .before .before .before .before .none-empty .ensures) (not-false _ (c .before .before .before .before .before .before .if3 .left)) _ (c .before .before .rest-empty .ensures) (not-true _ (c .before .if4 .taken))) (c .refused4 .ensures)
 
 sub-first3 : tie.Need-sub-first3
 sub-first3 c = links-few (ended-known c)
@@ -136,7 +136,7 @@ sub-first4 : tie.Need-sub-first4
 sub-first4 c = first-fourth-known c .1
 
 returns-6 : tie.Need-returns-6
-returns-6 c = refused-shape _ (not-needed (ended-known (c .before .before .before .before .before .before .before .before .before .before .before .before .before .before .before)) (f₂ (c .before .before .before .before .before .before .before .before .before .before)) (x₃ (c .before .before .before .before .before .before)) (x₄ (c .before .before)) (first-second-known (c .before .before .before .before .before .before .before .before .before .before)) (first-third-known (c .before .before .before .before .before .before)) (first-fourth-known (c .before .before)) _ (omega (arith, c .before .if6 .taken))) (c .refused5 .ensures)
+returns-6 c = refused-page _ (not-needed (ended-known (c .before .before .before .before .before .before .before .before .before .before .before .before .before .before .before)) (f₂ (c .before .before .before .before .before .before .before .before .before .before)) (x₃ (c .before .before .before .before .before .before)) (x₄ (c .before .before)) (first-second-known (c .before .before .before .before .before .before .before .before .before .before)) (first-third-known (c .before .before .before .before .before .before)) (first-fourth-known (c .before .before)) _ (omega (arith, c .before .if6 .taken))) (c .refused5 .ensures)
 
 returns-7 : tie.Need-returns-7
 returns-7 c = after-other (ended-known (c .before .before .before .before .before .before .before .before .before .before .before .before .before .before)) (f₂ (c .before .before .before .before .before .before .before .before .before)) (x₃ (c .before .before .before .before .before)) (x₄ (c .before)) (first-second-known (c .before .before .before .before .before .before .before .before .before)) (first-third-known (c .before .before .before .before .before)) (first-fourth-known (c .before)) _ (c .if6 .left)
