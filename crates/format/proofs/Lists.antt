@@ -3,11 +3,12 @@
 use mathlib.Core.Path.{_≡_, refl, sym, ap, ap₂, _∙_, subst}
 use mathlib.Core.Bool.{Bool, true, false, _&&_, _||_}
 use mathlib.Core.List.{List, [], _∷_, _++_, map, flatMap, head-eq-of-cons-eq, tail-eq-of-cons-eq}
-use Prim.Native.Nat.{ℕ, zero, suc, _+_, _*_, _≤_, _<_}
-use native.Mathlib.Nat.{add-zero, add-suc, suc-add, zero-add}
+use Prim.Native.Nat.{ℕ, zero, suc, _+_, _-_, _*_, _≤_, _<_}
+use native.Mathlib.Nat.{add-zero, add-suc, suc-add, sub-zero, suc-sub-suc, zero-add, zero-sub}
 use native.Mathlib.Omega.{arith}
 use native.Mathlib.Decide.{ℕ-discrete}
 use lib.ListN.{length, getD, take, drop, length-append}
+use lib.Seq.{take-nil}
 use Rattle.format.specs.Seq.{All, every, numbersFrom, total, upTo}
 
 -- ---- tests
@@ -172,6 +173,15 @@ pub numbers-split : (i n m : ℕ) → numbersFrom i (n + m) ≡ numbersFrom i n 
 unfolding numbersFrom
 numbers-split i zero m = rw (zero-add, add-zero)
 numbers-split i (suc n) m = rw suc-add (ap {B = List ℕ} (λ l. i ∷ l) (numbers-split (suc i) n m ∙ rw (suc-add, ← add-suc)))
+
+-- ---- pieces of lists
+
+-- the first n without the first k
+pub drop-take : {A : Type 0} (k n : ℕ) (l : List A) → drop k (take n l) ≡ take (n - k) (drop k l)
+drop-take zero n l = rw (sub-zero n)
+drop-take (suc k) zero l = rw (zero-sub (suc k))
+drop-take (suc k) (suc n) [] = sym (take-nil (suc n - suc k))
+drop-take (suc k) (suc n) (x ∷ l) = rw (suc-sub-suc n k) (drop-take k n l)
 
 -- ---- lists of lists of one length
 

@@ -2,7 +2,7 @@
 use mathlib.Core.Path.{_≡_, refl, sym, ap, ap₂, _∙_}
 use mathlib.Core.List.{List, [], _∷_, _++_, flatMap}
 use Prim.Native.Nat.{ℕ, zero, suc, _+_, _-_, _*_, _/_, _%_, _^_, _≤_, _<_}
-use native.Mathlib.Nat.{zero-add, suc-add}
+use native.Mathlib.Nat.{zero-add}
 use native.Mathlib.Decide.{decLt}
 use native.Mathlib.Omega.{arith}
 use lib.ListN.{length, take, drop, getD, replicate, length-append, length-take, length-drop}
@@ -12,7 +12,7 @@ use lib.Count.{ones, onesIn}
 use Rattle.format.specs.Seq.{All, numbersFrom}
 use Rattle.format.specs.Trie.{bits, onBits}
 use Rattle.format.specs.Page.{Byte, pairsAt, pairsOf}
-use Rattle.format.proofs.Lists.{all-get, all-take, all-drop, all-append}
+use Rattle.format.proofs.Lists.{all-get, all-take, all-drop, all-append, drop-take}
 use Rattle.format.proofs.Bytes.{length-pairs, pairs-small}
 use Rattle.format.proofs.Subtries.{onBits-append}
 use Rattle.nodes.specs.Words.{countsBefore, halfAt, wordAt, wordsIn, filledUp, onesBefore, nodeIn}
@@ -45,11 +45,6 @@ counts-from a (suc m) (suc j) qs s h =
 
 -- ---- nodes of bytes
 
-drop-take : (n m : ℕ) (l : List ℕ) → drop n (take (n + m) l) ≡ take m (drop n l)
-drop-take zero m l = ap (λ (x : ℕ). take x l) (zero-add m)
-drop-take (suc n) m [] = ap (drop (suc n)) (take-nil (suc n + m)) ∙ sym (take-nil m)
-drop-take (suc n) m (x ∷ l) = ap (λ (k : ℕ). drop (suc n) (take k (x ∷ l))) (suc-add n m) ∙ drop-take n m l
-
 take-pairs : (k : ℕ) (l : List ℕ) → take (4 * k) (flatMap pairsOf l) ≡ flatMap pairsOf (take k l)
 unfolding flatMap pairsOf
 take-pairs zero l = refl
@@ -81,9 +76,9 @@ module _ (bytes : List ℕ) (small : All Byte bytes) where
       sym (word-val bytes small i (omega arith))
       ∙ ap (λ (x : List ℕ). val 0 (flatMap pairsOf x)) (sym (take-take 8 (8 * suc m) l (omega arith)))
       ∙ ap (val 0) (sym (take-pairs 8 (take (8 * suc m) l))) in
-      let e : 8 * suc m ≡ 8 + 8 * m = omega arith in
+      let e : 8 * suc m - 8 ≡ 8 * m = omega arith in
       let later : drop 8 (take (8 * suc m) l) ≡ take (8 * m) (drop (i + 8) bytes) =
-      ap (λ (x : ℕ). drop 8 (take x l)) e ∙ drop-take 8 (8 * m) l ∙ ap (take (8 * m)) (drop-drop 8 i bytes) in
+      drop-take 8 (8 * suc m) l ∙ ap₂ take e (drop-drop 8 i bytes) in
       ap₂ _∷_ first
       (words-on m (i + 8) (omega arith)
       ∙ ap (wordsFrom (suc m)) (ap (flatMap pairsOf) (sym later) ∙ sym (drop-pairs 8 (take (8 * suc m) l))))
@@ -102,7 +97,7 @@ module _ (bytes : List ℕ) (small : All Byte bytes) where
     words-of f =
         let e : at + 8 ≡ at + 4 + 4 = omega arith in
         let later : take 56 (drop (at + 8) bytes) ≡ drop 4 (take 60 (drop (at + 4) bytes)) =
-        ap (take 56) (ap (λ (x : ℕ). drop x bytes) e ∙ sym (drop-drop 4 (at + 4) bytes)) ∙ sym (drop-take 4 56 (drop (at + 4) bytes)) in
+        ap (take 56) (ap (λ (x : ℕ). drop x bytes) e ∙ sym (drop-drop 4 (at + 4) bytes)) ∙ sym (drop-take 4 60 (drop (at + 4) bytes)) in
         ap (val 0 (replicate 16 f ++ take 16 (pairsAt bytes at)) ∷_)
         (words-on 7 (at + 8) (omega arith) ∙ ap (wordsFrom 8) (ap (flatMap pairsOf) later ∙ sym (drop-pairs 4 (take 60 (drop (at + 4) bytes)))))
 

@@ -2,8 +2,8 @@
 -- Assumes nothing.
 use mathlib.Core.Path.{_≡_, refl, sym, ap, ap₂, _∙_}
 use mathlib.Core.Bool.{true}
-use mathlib.Core.List.{List, [], _∷_, _++_}
-use Prim.Native.Nat.{ℕ, zero, suc, _-_, _≤_}
+use mathlib.Core.List.{List, _++_}
+use Prim.Native.Nat.{ℕ, _-_, _≤_}
 use native.Mathlib.Omega.{arith}
 use borrow.Author.Tests.{le-ltb}
 use lib.ListN.{length, take, drop, replicate, length-append, length-drop, take-append-drop}
@@ -11,6 +11,7 @@ use lib.Seq.{take-all, take-at, take-take, drop-at, length-take-le}
 use Rattle.format.specs.Question.{isLift}
 use Rattle.format.specs.Writer.{liftQuestion}
 use Rattle.format.specs.declared.Admission.{Admission}
+use Rattle.format.proofs.Lists.{drop-take}
 use Rattle.image_writer.specs.declared.Plan.{Plan}
 use Rattle.writer.specs.declared.Written.{Written}
 use Rattle.writer.specs.Outcomes.{WrittenKeys, WrittenList}
@@ -23,17 +24,6 @@ use Rattle.writer.proofs.Job as job
 use Rattle.writer.proofs.Weaving.{keys-length, over-take, over-length, over-rest, in-pairs}
 
 -- ---- the list
-
--- a part of the first
-drop-take : (k n : ℕ) (l : List ℕ) → k ≤ n → drop k (take n l) ≡ take (n - k) (drop k l)
-drop-take zero n l h = let z : n - 0 ≡ n = omega arith in ap (λ (m : ℕ). take m l) (sym z)
-drop-take (suc k) zero l h = absurd (omega arith)
-drop-take (suc k) (suc n) [] h = none-of (suc n - suc k)
-  where
-    none-of : (m : ℕ) → _≡_ {A = List ℕ} [] (take m [])
-    none-of zero = refl
-    none-of (suc m) = refl
-drop-take (suc k) (suc n) (x ∷ l) h = let e : suc n - suc k ≡ n - k = omega arith in drop-take k n l (omega arith) ∙ ap (λ (m : ℕ). take m (drop k l)) (sym e)
 
 -- the first n, where there are places for them
 module _ (n : ℕ) (ls : List Admission) (places : List ℕ) (few : n ≤ length ls) (fits : n ≤ length places) where
@@ -74,7 +64,7 @@ module _ (lift : ℕ) (ls : List Admission) (keys after again : List ℕ) (plan 
     whole-again kept =
         sym (take-append-drop used (take (length ls) again))
         ∙ ap₂ _++_ (take-take used (length ls) again few ∙ ap (take used) e′ ∙ first-woven used ls after few (omega (arith, few, all, same)))
-        (drop-take used (length ls) again few ∙ ap (take (length ls - used)) (ap (drop used) e′ ∙ others-kept used ls after few (omega (arith, few, all, same))) ∙ sym (drop-take used (length ls) after few) ∙ kept)
+        (drop-take used (length ls) again ∙ ap (take (length ls - used)) (ap (drop used) e′ ∙ others-kept used ls after few (omega (arith, few, all, same))) ∙ sym (drop-take used (length ls) after) ∙ kept)
         ∙ take-append-drop used (keysIn ls)
 
     passed-again : FirstPass lift (take (length ls) keys) (take (length ls) after) plan → take (length ls) again ≡ keysIn ls
