@@ -157,12 +157,12 @@ all-mem P x (y ∷ l) a m = ⊎-elim (λ (e : x ≡ y). subst P (sym e) (a .0)) 
 
 -- ---- parts of a list
 
-pub select-append : (f : ℕ → Bool) (a b : List ℕ) → select f (a ++ b) ≡ select f a ++ select f b
+pub select-append : {A : Type 0} (f : A → Bool) (a b : List A) → select f (a ++ b) ≡ select f a ++ select f b
 unfolding select
 select-append f [] b = refl
 select-append f (x ∷ a) b = ap (consIf (f x) x) (select-append f a b) ∙ go (f x) x (select f a) (select f b)
   where
-    go : (t : Bool) (x : ℕ) (l m : List ℕ) → consIf t x (l ++ m) ≡ consIf t x l ++ m
+    go : {A : Type 0} (t : Bool) (x : A) (l m : List A) → consIf t x (l ++ m) ≡ consIf t x l ++ m
     go true x l m = unfold consIf in refl
     go false x l m = unfold consIf in refl
 

@@ -30,12 +30,12 @@ every f [] = true
 every f (x ∷ xs) = f x && every f xs
 
 -- x in front of xs, if the test passed
-unfoldable pub consIf : Bool → ℕ → List ℕ → List ℕ
+unfoldable pub consIf : {A : Type 0} → Bool → A → List A → List A
 consIf true x xs = x ∷ xs
 consIf false x xs = xs
 
 -- the elements that pass the test, in order (mathlib's `filter` takes a decision, not a test)
-unfoldable pub select : (ℕ → Bool) → List ℕ → List ℕ
+unfoldable pub select : {A : Type 0} → (A → Bool) → List A → List A
 select f [] = []
 select f (x ∷ xs) = consIf (f x) x (select f xs)
 
