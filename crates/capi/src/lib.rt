@@ -193,11 +193,12 @@ pub extern "C" fn lpt_scan(
     slot: u16,
     time: u32,
     lockout: u32,
+    lane: u32,
     lift: u32,
 ) -> i64
-    ensures { λ r. ⌜ (r ≡ encoded (Scan.scan lift (now (img .entry)) (now (rec .entry)) holder slot time lockout)) × (now (rec .exit) ≡ Scan.recordsAfterScan lift (now (img .entry)) (now (rec .entry)) holder slot time lockout) ⌝ }
+    ensures { λ r. ⌜ (r ≡ encoded (Scan.scan lift (now (img .entry)) (now (rec .entry)) lane holder slot time lockout)) × (now (rec .exit) ≡ Scan.recordsAfterScan lift (now (img .entry)) (now (rec .entry)) lane holder slot time lockout) ⌝ }
 {
-    match gate::scan(img, rec, holder, slot, time, lockout, lift) {
+    match gate::scan(img, rec, holder, slot, time, lockout, lane, lift) {
         Scanned::Opened(rank) => answer(rank as usize),
         Scanned::Refused(n) => refusal(n),
     }

@@ -1,7 +1,7 @@
 -- The gate's scan: its questions, what it returns, and the record buffer at exit.
 -- Assumes nothing.
-use Prim.Native.Nat.{ℕ, _+_}
-use mathlib.Core.Bool.{Bool, _||_}
+use Prim.Native.Nat.{ℕ, _+_, _-_}
+use mathlib.Core.Bool.{Bool, _&&_, _||_}
 use mathlib.Core.List.{List, [], _∷_, _++_}
 use lib.Dec.{leb, ltb, eqb}
 use lib.ListN.{length, getD, set}
@@ -11,22 +11,33 @@ use Rattle.format.specs.Image.{keyCount, keysOf, liftOf}
 use Rattle.format.specs.Question.{Question, Outcome, refused, returns, settle, isZero, imageQuestions}
 
 -- the largest 32-bit number
-unfoldable pub largest32 : ℕ
+abbrev pub largest32 : ℕ
 largest32 = 4294967295
+
+-- ---- the record buffer of an image with n keys
+
+-- a record for each rank, then eight counts of openings, lane 1's first
+unfoldable pub recordsLength : ℕ → ℕ
+recordsLength n = n + 8
+
+-- whether a number is a lane's: 1 to 8
+unfoldable pub isLane : ℕ → Bool
+isLane lane = leb 1 lane && leb lane 8
+
+-- the place of a lane's count
+abbrev pub lanePlace : ℕ → ℕ → ℕ
+lanePlace n lane = n + (lane - 1)
 
 -- ---- the questions, of an image with n keys
 
--- the place of the openings count: after the records of the ranks, the last element
-unfoldable pub openingsPlace : ℕ → ℕ
-openingsPlace n = n
-
--- 36 and 21 to 24: whether the lift fits, and whether the admission is listed, are handed in
-unfoldable pub gateQuestions : Bool → ℕ → List ℕ → Bool → ℕ → List Question
-gateQuestions fits n records listed time =
+-- 36, 29 and 21 to 24: whether the lift fits, and whether the admission is listed, are handed in
+unfoldable pub gateQuestions : Bool → ℕ → List ℕ → ℕ → Bool → ℕ → List Question
+gateQuestions fits n records lane listed time =
     (36, fits)
-    ∷ (21, eqb (length records) (openingsPlace n + 1))
+    ∷ (29, isLane lane)
+    ∷ (21, eqb (length records) (recordsLength n))
     ∷ (22, ltb time largest32)
-    ∷ (23, ltb (getD records (openingsPlace n) 0) largest32)
+    ∷ (23, ltb (getD records (lanePlace n lane) 0) largest32)
     ∷ (24, listed)
     ∷ []
 
@@ -51,26 +62,26 @@ liftFits lift img = isZero (liftOf img) || eqb (liftOf img) lift
 unfoldable pub recordOf : List ℕ → List ℕ → ℕ → ℕ
 recordOf img records key = getD records (rankIn (keysOf img) key) 0
 
--- 36 and 21 to 26, at a gate of that lift
-unfoldable pub scanQuestions : ℕ → List ℕ → List ℕ → ℕ → ℕ → ℕ → List Question
-scanQuestions lift img records key time lockout =
-    gateQuestions (liftFits lift img) (keyCount img) records (isIn key (keysOf img)) time ++ lockoutQuestions (recordOf img records key) time lockout
+-- 36, 29 and 21 to 26, at a gate of that lift and in that lane
+unfoldable pub scanQuestions : ℕ → List ℕ → List ℕ → ℕ → ℕ → ℕ → ℕ → List Question
+scanQuestions lift img records lane key time lockout =
+    gateQuestions (liftFits lift img) (keyCount img) records lane (isIn key (keysOf img)) time ++ lockoutQuestions (recordOf img records key) time lockout
 
--- 1 to 13, then 36 and 21 to 26; returns the rank
-unfoldable pub scan : ℕ → List ℕ → List ℕ → ℕ → ℕ → ℕ → ℕ → Outcome ℕ
-scan lift img records holder slot time lockout =
-    settle (imageQuestions img ++ scanQuestions lift img records (keyOf holder slot) time lockout) (rankIn (keysOf img) (keyOf holder slot))
+-- 1 to 13, then these; returns the rank
+unfoldable pub scan : ℕ → List ℕ → List ℕ → ℕ → ℕ → ℕ → ℕ → ℕ → Outcome ℕ
+scan lift img records lane holder slot time lockout =
+    settle (imageQuestions img ++ scanQuestions lift img records lane (keyOf holder slot) time lockout) (rankIn (keysOf img) (keyOf holder slot))
 
 -- ---- the records at exit, of an image with n keys
 
--- after an opening at a rank: time + 1 there, one more in the openings count, the other elements as they were
-unfoldable pub opened : ℕ → List ℕ → ℕ → ℕ → List ℕ
-opened n records rank time = set (set records rank (time + 1)) (openingsPlace n) (getD records (openingsPlace n) 0 + 1)
+-- after an opening at a rank: time + 1 there, one more in the lane's count, the other elements as they were
+unfoldable pub opened : ℕ → List ℕ → ℕ → ℕ → ℕ → List ℕ
+opened n records lane rank time = set (set records rank (time + 1)) (lanePlace n lane) (getD records (lanePlace n lane) 0 + 1)
 
 -- after a scan with that outcome: as they were after a refusal
-unfoldable pub recordsAfter : Outcome ℕ → ℕ → List ℕ → ℕ → List ℕ
-recordsAfter (refused number) n records time = records
-recordsAfter (returns rank) n records time = opened n records rank time
+unfoldable pub recordsAfter : Outcome ℕ → ℕ → List ℕ → ℕ → ℕ → List ℕ
+recordsAfter (refused number) n records lane time = records
+recordsAfter (returns rank) n records lane time = opened n records lane rank time
 
-unfoldable pub recordsAfterScan : ℕ → List ℕ → List ℕ → ℕ → ℕ → ℕ → ℕ → List ℕ
-recordsAfterScan lift img records holder slot time lockout = recordsAfter (scan lift img records holder slot time lockout) (keyCount img) records time
+unfoldable pub recordsAfterScan : ℕ → List ℕ → List ℕ → ℕ → ℕ → ℕ → ℕ → ℕ → List ℕ
+recordsAfterScan lift img records lane holder slot time lockout = recordsAfter (scan lift img records lane holder slot time lockout) (keyCount img) records lane time

@@ -1,4 +1,4 @@
--- The scan's answer and records, from lookup's answer and what 36 and 21 to 26 then say.
+-- The scan's answer and records, from lookup's answer and what 36, 29 and 21 to 26 then say.
 -- Assumes nothing.
 use mathlib.Core.Path.{_≡_, refl, sym, ap, _∙_}
 use mathlib.Core.Bool.{Bool, true, false, _||_, cond}
@@ -77,7 +77,7 @@ module _ (img : List ℕ) (holder slot : ℕ) where
 
 -- ---- the scan
 
-module _ (lift : ℕ) (img records : List ℕ) (holder slot time lockout : ℕ) where
+module _ (lift : ℕ) (img records : List ℕ) (lane holder slot time lockout : ℕ) where
   abbrev own-key : ℕ
   own-key = key img holder slot
 
@@ -85,29 +85,29 @@ module _ (lift : ℕ) (img records : List ℕ) (holder slot time lockout : ℕ) 
   own-rank = rank-of img holder slot
 
   abbrev pub Done : Outcome ℕ → List ℕ → Type 0
-  Done o after = (o ≡ scan lift img records holder slot time lockout) × (after ≡ recordsAfterScan lift img records holder slot time lockout)
+  Done o after = (o ≡ scan lift img records lane holder slot time lockout) × (after ≡ recordsAfterScan lift img records lane holder slot time lockout)
 
   -- the records, from the outcome
-  done : (o : Outcome ℕ) → o ≡ scan lift img records holder slot time lockout → Done o (recordsAfter o (keyCount img) records time)
+  done : (o : Outcome ℕ) → o ≡ scan lift img records lane holder slot time lockout → Done o (recordsAfter o (keyCount img) records lane time)
   unfolding recordsAfterScan
-  done o e = (e, ap (λ (q : Outcome ℕ). recordsAfter q (keyCount img) records time) e)
+  done o e = (e, ap (λ (q : Outcome ℕ). recordsAfter q (keyCount img) records lane time) e)
 
   -- a refused image
   pub image-refused : (n : ℕ) → lookup img holder slot ≡ refused n → Done (refused n) records
   unfolding lookup scan settle outcome recordsAfter
   image-refused n e =
       let first : firstNo (imageQuestions img) ≡ some n = no-of-refused (imageQuestions img) (lookupAnswer img own-key) n e in
-      done (refused n) (sym (ap (λ o. outcome o own-rank) (after-no (imageQuestions img) (scanQuestions lift img records own-key time lockout) n first)))
+      done (refused n) (sym (ap (λ o. outcome o own-rank) (after-no (imageQuestions img) (scanQuestions lift img records lane own-key time lockout) n first)))
 
-  -- an accepted image, and 36 and 21 to 24 with the numbers that the code holds
+  -- an accepted image, and 36, 29 and 21 to 24 with the numbers that the code holds
   module _ (answer : LookupAnswer) (e : lookup img holder slot ≡ returns answer) (n : ℕ) (f t : Bool) (k : n ≡ keyCount img) (l : f ≡ liftFits lift img) (is-in : isIn own-key (keysOf img) ≡ t) (refusal : ℕ)
-      (first : refusalOf refusal ≡ firstNo (gateQuestions f n records t time)) where
-    scan-is : scan lift img records holder slot time lockout ≡ settle (scanQuestions lift img records own-key time lockout) own-rank
+      (first : refusalOf refusal ≡ firstNo (gateQuestions f n records lane t time)) where
+    scan-is : scan lift img records lane holder slot time lockout ≡ settle (scanQuestions lift img records lane own-key time lockout) own-rank
     unfolding scan settle
     scan-is = ap (λ o. outcome o own-rank) (after-yes (imageQuestions img) _ (image-yes img holder slot answer e))
 
-    asked : firstNo (gateQuestions (liftFits lift img) (keyCount img) records (isIn own-key (keysOf img)) time) ≡ refusalOf refusal
-    asked = (λ i. firstNo (gateQuestions (sym l i) (sym k i) records (is-in i) time)) ∙ sym first
+    asked : firstNo (gateQuestions (liftFits lift img) (keyCount img) records lane (isIn own-key (keysOf img)) time) ≡ refusalOf refusal
+    asked = (λ i. firstNo (gateQuestions (sym l i) (sym k i) records lane (is-in i) time)) ∙ sym first
 
     -- one of them gets a no
     refused-first : (refusal ≡ 0 → ⊥) → Done (refused refusal) records
@@ -120,28 +120,28 @@ module _ (lift : ℕ) (img records : List ℕ) (holder slot time lockout : ℕ) 
         go (suc r) ne = unfold refusalOf in refl
 
     -- none does, and 25 and 26 decide
-    passed-first : refusal ≡ 0 → scan lift img records holder slot time lockout ≡ settle (lockoutQuestions (recordOf img records own-key) time lockout) own-rank
+    passed-first : refusal ≡ 0 → scan lift img records lane holder slot time lockout ≡ settle (lockoutQuestions (recordOf img records own-key) time lockout) own-rank
     unfolding scanQuestions settle
     passed-first z = scan-is ∙ ap (λ o. outcome o own-rank) (after-yes _ (lockoutQuestions (recordOf img records own-key) time lockout) (none-of-zero (sym asked) z))
 
   -- an admission that is not listed: 24 at the latest
-  pub scanned-absent : (n refusal : ℕ) (f : Bool) → lookup img holder slot ≡ returns absent → n ≡ keyCount img → f ≡ liftFits lift img → refusalOf refusal ≡ firstNo (gateQuestions f n records false time)
+  pub scanned-absent : (n refusal : ℕ) (f : Bool) → lookup img holder slot ≡ returns absent → n ≡ keyCount img → f ≡ liftFits lift img → refusalOf refusal ≡ firstNo (gateQuestions f n records lane false time)
       → Done (refused refusal) records
   unfolding gateQuestions
   scanned-absent n refusal f e k l first =
-      refused-first absent e n f false k l (off img holder slot e) refusal first (λ z. let absent-in : false ≡ true = yes-of-none _ (none-of-zero first z) .1 .1 .1 .1 .0 in let w : _≡_ {A = ℕ} 0 1 = cc in omega arith)
+      refused-first absent e n f false k l (off img holder slot e) refusal first (λ z. let absent-in : false ≡ true = yes-of-none _ (none-of-zero first z) .1 .1 .1 .1 .1 .0 in let w : _≡_ {A = ℕ} 0 1 = cc in omega arith)
 
   -- a listed one
   module _ (rank : ℕ) (pages : List ℕ) (e : lookup img holder slot ≡ returns (listed rank pages)) (n refusal : ℕ) (f : Bool) (k : n ≡ keyCount img) (l : f ≡ liftFits lift img)
-      (first : refusalOf refusal ≡ firstNo (gateQuestions f n records true time)) where
-    -- 36 and 21 to 24
+      (first : refusalOf refusal ≡ firstNo (gateQuestions f n records lane true time)) where
+    -- 36, 29 and 21 to 24
     pub scanned-no : (refusal ≡ 0 → ⊥) → Done (refused refusal) records
     scanned-no = refused-first (listed rank pages) e n f true k l (on img holder slot rank pages e .0) refusal first
 
     -- 25 and 26, of the rank's record
-    pub scanned-yes : refusal ≡ 0 → (o : Outcome ℕ) (after : List ℕ) → (o ≡ settle (lockoutQuestions (getD records rank 0) time lockout) rank) × (after ≡ recordsAfter o n records time) → Done o after
+    pub scanned-yes : refusal ≡ 0 → (o : Outcome ℕ) (after : List ℕ) → (o ≡ settle (lockoutQuestions (getD records rank 0) time lockout) rank) × (after ≡ recordsAfter o n records lane time) → Done o after
     unfolding recordOf
     scanned-yes z o after d =
         let own : rank ≡ own-rank = sym (on img holder slot rank pages e .1) in
         let all = done o (d .0 ∙ (λ i. settle (lockoutQuestions (getD records (own i) 0) time lockout) (own i)) ∙ sym (passed-first (listed rank pages) e n f true k l (on img holder slot rank pages e .0) refusal first z)) in
-        (all .0, d .1 ∙ ap (λ (m : ℕ). recordsAfter o m records time) k ∙ all .1)
+        (all .0, d .1 ∙ ap (λ (m : ℕ). recordsAfter o m records lane time) k ∙ all .1)

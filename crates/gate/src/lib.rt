@@ -3,8 +3,9 @@ use query::Presence;
 ghost use mathlib.Core.Path.{_≡_};
 ghost use mathlib.Core.Bool.{true};
 ghost use mathlib.Core.Option.{none};
-ghost use Prim.Native.Nat.{_≤_, _<_};
-ghost use lib.ListN.{length};
+ghost use Prim.Native.Nat.{_+_, _≤_, _<_};
+ghost use lib.Dec.{ltb};
+ghost use lib.ListN.{length, getD};
 ghost use Rattle.format.specs.Question.{firstNo, settle};
 ghost use Rattle.format.specs.Scan;
 ghost use Rattle.header.specs.Refusal.{refusalOf};
@@ -50,14 +51,44 @@ fn lockout_over(last: u32, time: u32, lockout: u32) -> bool
     last as u64 + lockout as u64 <= time as u64 + 1
 }
 
-// 36 and 21 to 24, of an image with `keys` keys: the number of the first that gets a no, 0 where none does.
-fn gate_refusal(records: &[u32], keys: usize, fits: bool, listed: bool, time: u32) -> u8
-    requires { ⌜ keys < 65536 ⌝ }
-    ensures { λ r. ⌜ refusalOf r ≡ firstNo (Scan.gateQuestions fits keys (now (records .entry)) listed time) ⌝ }
+// 29: the lane is one of 1 to 8.
+fn is_lane(lane: u32) -> bool
+    ensures { λ r. ⌜ r ≡ Scan.isLane lane ⌝ }
 {
-    let long = records.len() == keys + 1;
+    if lane < 1 {
+        return false;
+    }
+    lane <= 8
+}
+
+// The place of a lane's count in the records of an image with `keys` keys.
+fn lane_place(keys: usize, lane: u32) -> usize
+    requires { ⌜ (keys < 65536) × (1 ≤ lane) × (lane ≤ 8) ⌝ }
+    ensures { λ r. ⌜ r ≡ Scan.lanePlace keys lane ⌝ }
+{
+    keys + (lane as usize - 1)
+}
+
+// 23: the count at a place is below its end.
+fn below_end(records: &[u32], count: usize) -> bool
+    requires { ⌜ count < length (now records) ⌝ }
+    ensures { λ r. ⌜ r ≡ ltb (getD (now (records .entry)) count 0) Scan.largest32 ⌝ }
+{
+    records[count] < 4294967295
+}
+
+// 36, 29 and 21 to 24, of an image with `keys` keys: the number of the first that gets a no, 0 where none does.
+fn gate_refusal(records: &[u32], keys: usize, fits: bool, lane: u32, listed: bool, time: u32) -> u8
+    requires { ⌜ keys < 65536 ⌝ }
+    ensures { λ r. ⌜ refusalOf r ≡ firstNo (Scan.gateQuestions fits keys (now (records .entry)) lane listed time) ⌝ }
+{
+    let in_lane = is_lane(lane);
+    let long = records.len() == keys + 8;
     if !fits {
         return 36;
+    }
+    if !in_lane {
+        return 29;
     }
     if !long {
         return 21;
@@ -65,16 +96,25 @@ fn gate_refusal(records: &[u32], keys: usize, fits: bool, listed: bool, time: u3
     if time == 4294967295 {
         return 22;
     }
-    if records[keys] == 4294967295 {
+    let count = lane_place(keys, lane);
+    if !below_end(records, count) {
         return 23;
     }
     if listed { 0 } else { 24 }
 }
 
-// 25 and 26, of the record `last`, where 36 and 21 to 24 got a yes; and the opening of the admission at `rank`.
-fn admit(records: &mut [u32], keys: usize, rank: u32, last: u32, time: u32, lockout: u32) -> Scanned
-    requires { ⌜ (keys < 65536) × (rank < keys) × (firstNo (Scan.gateQuestions true keys (now records) true time) ≡ none) ⌝ }
-    ensures { λ r. ⌜ (outcomeOf r ≡ settle (Scan.lockoutQuestions last time lockout) rank) × (now (records .exit) ≡ Scan.recordsAfter (outcomeOf r) keys (now (records .entry)) time) ⌝ }
+// 25 and 26, of the record `last`, where 36, 29 and 21 to 24 got a yes; and the opening of the admission at `rank`.
+fn admit(
+    records: &mut [u32],
+    keys: usize,
+    lane: u32,
+    rank: u32,
+    last: u32,
+    time: u32,
+    lockout: u32,
+) -> Scanned
+    requires { ⌜ (keys < 65536) × (rank < keys) × (firstNo (Scan.gateQuestions true keys (now records) lane true time) ≡ none) ⌝ }
+    ensures { λ r. ⌜ (outcomeOf r ≡ settle (Scan.lockoutQuestions last time lockout) rank) × (now (records .exit) ≡ Scan.recordsAfter (outcomeOf r) keys (now (records .entry)) lane time) ⌝ }
 {
     let place = rank as usize;
     if !time_right(last, time) {
@@ -83,14 +123,15 @@ fn admit(records: &mut [u32], keys: usize, rank: u32, last: u32, time: u32, lock
     if !lockout_over(last, time, lockout) {
         return Scanned::Refused(26);
     }
-    let openings = records[keys];
+    let count = lane_place(keys, lane);
+    let openings = records[count];
     records[place] = time + 1;
-    records[keys] = openings + 1;
+    records[count] = openings + 1;
     Scanned::Opened(rank)
 }
 
-// Whether the admission opens at a gate of that lift, at that time, after the lockout. An opening returns its rank, records time + 1 there and
-// adds one to the last element; a refusal changes nothing.
+// Whether the admission opens in that lane of a gate of that lift, at that time, after the lockout. An opening returns its rank, records time + 1 there
+// and adds one to the lane's count; a refusal changes nothing.
 pub fn scan(
     image: &[u8],
     records: &mut [u32],
@@ -98,9 +139,10 @@ pub fn scan(
     slot: u16,
     time: u32,
     lockout: u32,
+    lane: u32,
     lift: u32,
 ) -> Scanned
-    ensures { λ r. ⌜ (outcomeOf r ≡ Scan.scan lift (now (image .entry)) (now (records .entry)) holder slot time lockout) × (now (records .exit) ≡ Scan.recordsAfterScan lift (now (image .entry)) (now (records .entry)) holder slot time lockout) ⌝ }
+    ensures { λ r. ⌜ (outcomeOf r ≡ Scan.scan lift (now (image .entry)) (now (records .entry)) lane holder slot time lockout) × (now (records .exit) ≡ Scan.recordsAfterScan lift (now (image .entry)) (now (records .entry)) lane holder slot time lockout) ⌝ }
 {
     let found = query::lookup(image, holder, slot);
     let answer = found.answer;
@@ -111,18 +153,18 @@ pub fn scan(
         Presence::Absent => {
             let keys = header::key_count(image);
             let fits = lift_fits(image, lift);
-            return Scanned::Refused(gate_refusal(records, keys, fits, false, time));
+            return Scanned::Refused(gate_refusal(records, keys, fits, lane, false, time));
         }
         Presence::Listed(rank) => {
             let keys = header::key_count(image);
             let fits = lift_fits(image, lift);
-            let refusal = gate_refusal(records, keys, fits, true, time);
+            let refusal = gate_refusal(records, keys, fits, lane, true, time);
             if refusal != 0 {
                 return Scanned::Refused(refusal);
             }
             let place = rank as usize;
             let last = records[place];
-            return admit(records, keys, rank, last, time, lockout);
+            return admit(records, keys, lane, rank, last, time, lockout);
         }
     }
 }

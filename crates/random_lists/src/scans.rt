@@ -1,4 +1,4 @@
-// Long rows of scans, against a plain rule of the gate: each answer, and after it every record.
+// Long rows of scans, against a plain rule of the gate: each answer, and after it every record and every lane's count.
 use crate::ask::at_rank;
 use crate::ask::is_at;
 use crate::ask::pick;
@@ -16,6 +16,7 @@ struct Card {
     slot: u16,
     time: u32,
     lockout: u32,
+    lane: u32,
     // The gate's.
     lift: u32,
 }
@@ -42,10 +43,20 @@ fn rank_of(keys: &[u32], card: Card) -> usize {
     if is_at(keys, rank, key) { rank } else { 65536 }
 }
 
-// The plain rule: the number of the refusal, or 0 and the opening is recorded. `lift` is the image's.
+// The plain rule: the number of the refusal, or 0 and the opening is recorded. `lift` is the image's. The records end in eight counts, lane 1's first.
 fn rule(records: &mut [u32], rank: usize, card: Card, lift: u32) -> u8 {
     if lift != 0 && lift != card.lift {
         return 36;
+    }
+    let lane = card.lane as usize;
+    if lane < 1 {
+        return 29;
+    }
+    if 8 < lane {
+        return 29;
+    }
+    if records.len() < 8 {
+        return 21;
     }
     if records.len() <= rank {
         return 24;
@@ -54,9 +65,9 @@ fn rule(records: &mut [u32], rank: usize, card: Card, lift: u32) -> u8 {
     if refusal != 0 {
         return refusal;
     }
-    let last = records.len() - 1;
-    let openings = records[last];
-    records[last] = one_more(openings);
+    let count = records.len() - 8 + lane - 1;
+    let openings = records[count];
+    records[count] = one_more(openings);
     records[rank] = one_more(card.time);
     0
 }
@@ -77,6 +88,7 @@ fn is_scanned(image: &[u8], records: &mut [u32], card: Card, rank: usize, refusa
         card.slot,
         card.time,
         card.lockout,
+        card.lane,
         card.lift,
     );
     is_answer(scanned, refusal, rank)
@@ -126,6 +138,15 @@ fn slot_of(slot: u16, turn: u32) -> u16 {
     if turn % 5 == 4 { slot ^ 4 } else { slot }
 }
 
+// The lanes in turn, or on each ninth turn a number that is no lane's.
+fn lane_of(turn: u32) -> u32 {
+    let none: [u32; 3] = [0, 9, 255];
+    if turn % 9 == 8 {
+        return none[(turn / 9 % 3) as usize];
+    }
+    1 + turn % 8
+}
+
 // The image's lift, or on each thirteenth turn another.
 fn gate_of(lift: u32, turn: u32) -> u32 {
     if turn % 13 == 12 { lift ^ 8 } else { lift }
@@ -139,6 +160,7 @@ fn card_of(image: &[u8], lift: u32, rank: usize, turn: u32, random: Random) -> C
         slot: slot_of(a.slot, turn),
         time: time_of(turn, random),
         lockout: lockout_of(turn),
+        lane: lane_of(turn),
         lift: gate_of(lift, turn),
     }
 }
@@ -171,14 +193,14 @@ fn scan_row(
     t
 }
 
-// The same with records that were never opened.
+// The same with records and counts of zeros.
 pub fn scans(tally: Tally, keys: &[u32], lift: u32, image: &[u8], seed: Random) -> Tally {
-    let mut records = [0u32; 4097];
-    let mut expected = [0u32; 4097];
+    let mut records = [0u32; 4104];
+    let mut expected = [0u32; 4104];
     if 4096 < keys.len() {
         return expect(tally, SCANS, false);
     }
-    let n = keys.len() + 1;
+    let n = keys.len() + 8;
     scan_row(
         tally,
         keys,

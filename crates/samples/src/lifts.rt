@@ -119,18 +119,18 @@ pub fn images(tally: Tally) -> Tally {
 }
 
 // Whether a scan of holder 0 and slot 0 at a lift's gate is refused with `n` and leaves `records`, all 0, as lent; or opens, for 0.
-fn scans(image: &[u8], records: &mut [u32], time: u32, lift: u32, n: u8) -> bool {
-    let refusal = scan_refusal(gate::scan(image, records, 0, 0, time, 0, lift));
+fn scans(image: &[u8], records: &mut [u32], time: u32, lane: u32, lift: u32, n: u8) -> bool {
+    let refusal = scan_refusal(gate::scan(image, records, 0, 0, time, 0, lane, lift));
     if refusal != n {
         return false;
     }
     all_numbers(records, 0) == (0 < n)
 }
 
-// A case: the same with a record buffer of three elements.
+// A case: the same in lane 1 with a record buffer of ten elements.
 fn scan_case(tally: Tally, names: &[u8], image: &[u8], lift: u32, n: u8) -> Tally {
-    let mut records = [0u32; 3];
-    case(tally, names, scans(image, &mut records, 9, lift, n))
+    let mut records = [0u32; 10];
+    case(tally, names, scans(image, &mut records, 9, 1, lift, n))
 }
 
 // 36. Lift 65,543 is 7 in its lower 16 bits.
@@ -157,27 +157,37 @@ pub fn gates(tally: Tally) -> Tally {
 }
 
 // A case: lift 7's image, with another low byte of the key count, at lift 8's gate.
-fn other_gate(tally: Tally, names: &[u8], keys: u8, elements: usize, time: u32, n: u8) -> Tally {
+fn other_gate(
+    tally: Tally,
+    names: &[u8],
+    keys: u8,
+    elements: usize,
+    time: u32,
+    lane: u32,
+    n: u8,
+) -> Tally {
     let mut image = image_for(7);
     image[7] = keys;
-    let mut records = [0u32; 3];
-    if 3 < elements {
+    let mut records = [0u32; 10];
+    if 10 < elements {
         return case(tally, names, false);
     }
     case(
         tally,
         names,
-        scans(&image, &mut records[0..elements], time, 8, n),
+        scans(&image, &mut records[0..elements], time, lane, 8, n),
     )
 }
 
-// 36 after 13, and before 21 and 22.
+// 36 after 13, and before 29, 21 and 22.
 pub fn gate_order(tally: Tally) -> Tally {
     let names: &[u8] = b"\
         13: another key count at another lift's gate\n\
+        36: lane 9 at another lift's gate\n\
         36: two elements at another lift's gate\n\
         36: the last time at another lift's gate\n";
-    let mut t = other_gate(tally, names, 1, 3, 9, 13);
-    t = other_gate(t, names, 2, 2, 9, 36);
-    other_gate(t, names, 2, 3, 4294967295, 36)
+    let mut t = other_gate(tally, names, 1, 10, 9, 1, 13);
+    t = other_gate(t, names, 2, 10, 9, 9, 36);
+    t = other_gate(t, names, 2, 2, 9, 1, 36);
+    other_gate(t, names, 2, 10, 4294967295, 1, 36)
 }

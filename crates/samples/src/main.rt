@@ -3,6 +3,7 @@
 mod gates;
 mod images;
 mod judge;
+mod lanes;
 mod lifts;
 mod plates;
 mod questions;
@@ -28,8 +29,11 @@ fn main() {
     tally = questions::rectangles(tally);
     tally = questions::ranks(tally);
     tally = gates::lockouts(tally);
-    tally = gates::wrong_lengths(tally);
     tally = gates::limits(tally);
+    tally = lanes::lanes(tally);
+    tally = lanes::lengths(tally);
+    tally = lanes::full_lane(tally);
+    tally = lanes::each_lane(tally);
     tally = lifts::headers(tally);
     tally = lifts::writers(tally);
     tally = lifts::images(tally);

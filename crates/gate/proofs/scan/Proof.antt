@@ -11,7 +11,7 @@ use Rattle.format.specs.Answer.{LookupAnswer, absent, listed, lookup}
 use Rattle.format.specs.Scan.{gateQuestions}
 use Rattle.query.specs.Outcomes.{lookupOutcome}
 use Rattle.nodes.proofs.Numbers.{bytes-of}
-use Rattle.gate.proofs.Admits.{lift-yes, none-of-zero, records-fit}
+use Rattle.gate.proofs.Admits.{fits-yes, none-of-zero, records-fit}
 use Rattle.gate.proofs.Scans.{header-long, image-refused, rank-small, scanned-absent, scanned-no, scanned-yes}
 use Rattle.gate.proofs.scan.Statement.{statement}
 use Rattle.gate.proofs.scan.Tie as tie
@@ -24,7 +24,7 @@ Answered l answer = lookup (l .before .before .before .args .image .now) (l .bef
 
 returns : tie.Need-returns
 unfolding lookupOutcome
-returns c = let l = c .before .before .before in image-refused _ _ _ _ _ _ _ _ (sym (l .lookup .ensures .0) ∙ ap (λ q. lookupOutcome q (l .lookup .result .pages)) (c .before .answer .given .1))
+returns c = let l = c .before .before .before in image-refused _ _ _ _ _ _ _ _ _ (sym (l .lookup .ensures .0) ∙ ap (λ q. lookupOutcome q (l .lookup .result .pages)) (c .before .answer .given .1))
 
 -- ---- an admission that is not listed
 
@@ -41,7 +41,7 @@ lift-fits-requires c κs = header-long _ _ _ _ (is-absent (c .before))
 returns-2 : tie.Need-returns-2
 returns-2 c =
     let k = c .before .before .before in
-    scanned-absent _ _ _ _ _ _ _ _ _ _ (is-absent (k .before)) (k .key-count .ensures .0) (c .before .before .lift-fits .ensures) (c .gate-refusal .ensures)
+    scanned-absent _ _ _ _ _ _ _ _ _ _ _ (is-absent (k .before)) (k .key-count .ensures .0) (c .before .before .lift-fits .ensures) (c .gate-refusal .ensures)
 
 -- ---- a listed one
 
@@ -58,7 +58,7 @@ lift-fits-requires-2 c κs = header-long _ _ _ _ (is-listed (c .before))
 returns-3 : tie.Need-returns-3
 returns-3 c =
     let k = c .before .before .before .before in
-    scanned-no _ _ _ _ _ _ _ _ _ (is-listed (k .before)) _ _ _ (k .key-count2 .ensures .0) (c .before .before .before .lift-fits2 .ensures) (c .before .gate-refusal2 .ensures) (c .if1 .taken)
+    scanned-no _ _ _ _ _ _ _ _ _ _ (is-listed (k .before)) _ _ _ (k .key-count2 .ensures .0) (c .before .before .before .lift-fits2 .ensures) (c .before .gate-refusal2 .ensures) (c .if1 .taken)
 
 -- its rank is below the key count
 below : (k : tie.After-key-count2) → k .before .before .answer2 .given .0 .0 < k .key-count2 .result
@@ -67,12 +67,12 @@ below k =
     let s = l .before .before .before in
     omega (arith, k .key-count2 .ensures .0, rank-small _ _ _ _ _ (is-listed (k .before)) (bytes-of (s .args .image .now) (λ i. l .before .before .shared-slice-known .given i .fits)))
 
--- 36 and 21 to 24 got a yes
-passed : (c : tie.Else1) → firstNo (gateQuestions true (c .before .before .before .before .key-count2 .result) (c .before .before .before .before .before .before .before .before .before .before .before .args .records .now) true (c .before .before .before .before .before .before .before .before .before .before .before .args .time)) ≡ none
-passed c = lift-yes _ _ _ _ _ (none-of-zero (c .before .gate-refusal2 .ensures) (c .if1 .left))
+-- 36, 29 and 21 to 24 got a yes
+passed : (c : tie.Else1) → firstNo (gateQuestions true (c .before .before .before .before .key-count2 .result) (c .before .before .before .before .before .before .before .before .before .before .before .args .records .now) (c .before .before .before .before .before .before .before .before .before .before .before .args .lane) true (c .before .before .before .before .before .before .before .before .before .before .before .args .time)) ≡ none
+passed c = fits-yes _ _ _ _ _ _ (none-of-zero (c .before .gate-refusal2 .ensures) (c .if1 .left))
 
 slice-read-last : tie.Need-slice-read-last
-slice-read-last c = omega (arith, below (c .before .before .before .before .before), records-fit _ _ _ _ _ (passed (c .before)) .size)
+slice-read-last c = omega (arith, below (c .before .before .before .before .before), records-fit _ _ _ _ _ _ (passed (c .before)) .size)
 
 admit-requires : tie.Need-admit-requires
 admit-requires c κs = let k = c .before .before .before .before .before .before in (k .key-count2 .ensures .1, below k, passed (c .before .before))
@@ -81,7 +81,7 @@ returns-4 : tie.Need-returns-4
 returns-4 c =
     let g = c .before .before .before .before .before .before in
     let k = g .before .before .before in
-    scanned-yes _ _ _ _ _ _ _ _ _ (is-listed (k .before)) _ _ _ (k .key-count2 .ensures .0) (g .before .before .lift-fits2 .ensures) (g .gate-refusal2 .ensures) (c .before .before .before .before .before .if1 .left) _ _ (c .before .before .admit .ensures)
+    scanned-yes _ _ _ _ _ _ _ _ _ _ (is-listed (k .before)) _ _ _ (k .key-count2 .ensures .0) (g .before .before .lift-fits2 .ensures) (g .gate-refusal2 .ensures) (c .before .before .before .before .before .if1 .left) _ _ (c .before .before .admit .ensures)
 
 pub scan-spec : {M : Type 1} → statement M
 scan-spec =
