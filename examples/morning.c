@@ -1,5 +1,5 @@
 /*
- * A morning at one lift: build an image, check it, list a rectangle of it, and scan cards.
+ * A morning at one lift with two lanes: build an image, check it, list a rectangle of it, and scan cards.
  * Built and run by examples/run.
  */
 #include <stdint.h>
@@ -12,6 +12,7 @@
 #define HOLDERS 40
 #define MORNING 8
 #define LIFT 7
+#define LANES 2 /* of at most LPT_LANES */
 
 static int by_key(const void *a, const void *b)
 {
@@ -70,16 +71,19 @@ int main(void)
     say("bytes written from keys", length);
     printf("%s\n", length == size && memcmp(image, again, (size_t)size) == 0 ? "the same image" : "another image");
 
-    /* Scans, with a lockout of ten minutes. */
-    static uint32_t records[3 * HOLDERS + 1];
-    size_t places = n + 1;
-    say("holder 1007 at 1000", lpt_scan(image, (size_t)size, records, places, 1007, MORNING, 1000, 600, LIFT));
-    say("again at 1599", lpt_scan(image, (size_t)size, records, places, 1007, MORNING, 1599, 600, LIFT));
-    say("again at 1600", lpt_scan(image, (size_t)size, records, places, 1007, MORNING, 1600, 600, LIFT));
-    say("at 900, before its last opening", lpt_scan(image, (size_t)size, records, places, 1007, MORNING, 900, 600, LIFT));
-    say("holder 1008, who has no admission", lpt_scan(image, (size_t)size, records, places, 1008, MORNING, 1600, 600, LIFT));
-    say("at the neighbour's gate", lpt_scan(image, (size_t)size, records, places, 1014, MORNING, 1600, 600, LIFT + 1));
-    say("openings", records[n]);
+    /* Scans in both lanes, with a lockout of ten minutes. The lockout holds in every lane. */
+    static uint32_t records[3 * HOLDERS + LPT_LANES];
+    size_t places = n + LPT_LANES;
+    say("holder 1007 at 1000, lane 1", lpt_scan(image, (size_t)size, records, places, 1007, MORNING, 1000, 600, 1, LIFT));
+    say("again at 1599, lane 2", lpt_scan(image, (size_t)size, records, places, 1007, MORNING, 1599, 600, 2, LIFT));
+    say("again at 1600, lane 2", lpt_scan(image, (size_t)size, records, places, 1007, MORNING, 1600, 600, 2, LIFT));
+    say("at 900, before its last opening", lpt_scan(image, (size_t)size, records, places, 1007, MORNING, 900, 600, 1, LIFT));
+    say("holder 1008, who has no admission", lpt_scan(image, (size_t)size, records, places, 1008, MORNING, 1600, 600, 1, LIFT));
+    say("holder 1014, lane 1", lpt_scan(image, (size_t)size, records, places, 1014, MORNING, 1600, 600, 1, LIFT));
+    say("holder 1021, lane 9, which is not there", lpt_scan(image, (size_t)size, records, places, 1021, MORNING, 1600, 600, 9, LIFT));
+    say("at the neighbour's gate", lpt_scan(image, (size_t)size, records, places, 1021, MORNING, 1600, 600, 1, LIFT + 1));
+    for (int lane = 1; lane <= LANES; lane++)
+        printf("openings in lane %d: %lu\n", lane, (unsigned long)records[n + lane - 1]);
 
     uint32_t found[9];
     if (lpt_lookup(image, (size_t)size, 1007, MORNING, found) == 1) {

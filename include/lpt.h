@@ -30,7 +30,7 @@ extern "C" {
 #endif
 
 /* The version of this interface: one more whenever a declaration here changes or one is added. */
-#define LPT_API_VERSION 3
+#define LPT_API_VERSION 4
 
 /* An admission: a holder and a half-day slot. */
 typedef struct {
@@ -44,9 +44,12 @@ typedef struct {
 /* The most bytes that an image can have (proved): a buffer of so many has room for any image. */
 #define LPT_MOST_BYTES 24640
 
+/* The number of lanes of a gate, numbered from 1: a record buffer ends in so many counts. */
+#define LPT_LANES 8
+
 /*
  * An image of version 2 is for one lift, numbered 1 to 999; one of version 1 names no lift, and counts as lift 0.
- * Lift numbers are taken as 32 bits, so that one too large is refused and not cut.
+ * Lift and lane numbers are taken as 32 bits, so that one too large is refused and not cut.
  */
 
 /* Refusals of an image, by every function that takes one; 35 is asked after 5, and is among 1 to 13 below. */
@@ -79,9 +82,10 @@ typedef struct {
 
 /* Refusals of a scan, by lpt_scan. */
 #define LPT_NO_GATE 36        /* the image is for another lift than the gate's */
-#define LPT_NO_RECORDS 21     /* the record buffer's length is not key count + 1 */
+#define LPT_NO_LANE 29        /* the lane is not 1 to 8 */
+#define LPT_NO_RECORDS 21     /* the record buffer's length is not key count + LPT_LANES */
 #define LPT_NO_TIME 22        /* the time is 4,294,967,295 */
-#define LPT_NO_OPENINGS 23    /* the openings count is 4,294,967,295 */
+#define LPT_NO_OPENINGS 23    /* the lane's count is 4,294,967,295 */
 #define LPT_NO_ADMISSION 24   /* the admission is not listed */
 #define LPT_NO_EARLIER 25     /* the time is before the last opening */
 #define LPT_NO_LOCKOUT 26     /* the lockout is not over */
@@ -131,13 +135,14 @@ int64_t lpt_list(const uint8_t *img, size_t len, uint16_t h0, uint16_t h1, uint1
 int64_t lpt_find(const uint8_t *img, size_t len, uint32_t rank);
 
 /*
- * Scans a card. rec has key count + 1 elements, zeros for a new gate: element r is 0 if the admission of rank r
- * never opened, else the time of its last opening + 1; the last element counts openings. lift is the gate's own:
- * any number, and an image of version 1 passes at any gate. An opening returns the rank, writes time + 1 there
- * and adds one to the last element. Refuses with 1 to 13, 36, 21 to 26, and then no element changes.
+ * Scans a card in a lane, 1 to LPT_LANES. rec has key count + LPT_LANES elements, zeros for a new gate: element r
+ * is 0 if the admission of rank r never opened, else the time of its last opening + 1; then each lane's count of
+ * openings, lane 1's first, so that lane L's is element key count + L - 1. lift is the gate's own: any number, and
+ * an image of version 1 passes at any gate. An opening returns the rank, writes time + 1 there and adds one to the
+ * lane's count alone. Refuses with 1 to 13, 36, 29, 21 to 26, and then no element changes.
  */
-int64_t lpt_scan(const uint8_t *img, size_t len, uint32_t *rec, size_t rec_len,
-                 uint16_t holder, uint16_t slot, uint32_t time, uint32_t lockout, uint32_t lift);
+int64_t lpt_scan(const uint8_t *img, size_t len, uint32_t *rec, size_t rec_len, uint16_t holder, uint16_t slot,
+                 uint32_t time, uint32_t lockout, uint32_t lane, uint32_t lift);
 
 #ifdef __cplusplus
 }
