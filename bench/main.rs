@@ -5,7 +5,7 @@ use std::collections::BTreeSet;
 use std::fmt::Write as _;
 use std::hint::black_box as bb;
 
-use reference::{unweave, weave, Admission, Rect, MOST_BYTES};
+use reference::{unweave, weave, Admission, Rect, LANES, MOST_BYTES};
 
 /// One implementation of the jobs; an answer -n is question n's no.
 struct Jobs {
@@ -17,7 +17,7 @@ struct Jobs {
     count: fn(&[u8], Rect) -> i64,
     list: fn(&[u8], Rect, &mut [u32]) -> i64,
     find: fn(&[u8], u32) -> i64,
-    scan: fn(&[u8], &mut [u32], u16, u16, u32, u32, u32) -> i64,
+    scan: fn(&[u8], &mut [u32], u16, u16, u32, u32, u32, u32) -> i64,
     // compared, not timed
     write_keys: fn(&[u32], u32, &mut [u8]) -> i64,
     key: fn(u16, u16) -> i64,
@@ -49,7 +49,7 @@ fn hand_written() -> Jobs {
         count: |i, r| answer(reference::count(i, r), |x| x as i64),
         list: |i, r, k| answer(reference::list(i, r, k), |x| x as i64),
         find: |i, r| answer(reference::find_by_rank(i, r), |(h, s)| (h as i64) << 16 | s as i64),
-        scan: |i, rec, h, s, t, l, lift| answer(reference::scan(i, rec, h, s, t, l, lift), |x| x as i64),
+        scan: |i, rec, h, s, t, l, lane, lift| answer(reference::scan(i, rec, h, s, t, l, lane, lift), |x| x as i64),
         write_keys: |k, lift, o| answer(reference::write(&admissions(k), lift, o), |x| x as i64),
         key: |h, s| weave(h, s) as i64,
         admission_of: |k| { let (h, s) = unweave(k); (h as i64) << 16 | s as i64 },
@@ -68,7 +68,7 @@ extern "C" {
     fn lpt_count(img: *const u8, len: usize, h0: u16, h1: u16, s0: u16, s1: u16) -> i64;
     fn lpt_list(img: *const u8, len: usize, h0: u16, h1: u16, s0: u16, s1: u16, keys: *mut u32, places: usize) -> i64;
     fn lpt_find(img: *const u8, len: usize, rank: u32) -> i64;
-    fn lpt_scan(img: *const u8, len: usize, rec: *mut u32, rec_len: usize, holder: u16, slot: u16, time: u32, lockout: u32, lift: u32) -> i64;
+    fn lpt_scan(img: *const u8, len: usize, rec: *mut u32, rec_len: usize, holder: u16, slot: u16, time: u32, lockout: u32, lane: u32, lift: u32) -> i64;
     fn lpt_write_keys(keys: *const u32, n: usize, lift: u32, out: *mut u8, out_len: usize) -> i64;
     fn lpt_key(holder: u16, slot: u16) -> i64;
     fn lpt_admission_of(key: u32) -> i64;
@@ -84,7 +84,7 @@ fn verified() -> Jobs {
         count: |i, q| unsafe { lpt_count(i.as_ptr(), i.len(), q.h0, q.h1, q.s0, q.s1) },
         list: |i, q, k| unsafe { lpt_list(i.as_ptr(), i.len(), q.h0, q.h1, q.s0, q.s1, k.as_mut_ptr(), k.len()) },
         find: |i, r| unsafe { lpt_find(i.as_ptr(), i.len(), r) },
-        scan: |i, rec, h, s, t, l, lift| unsafe { lpt_scan(i.as_ptr(), i.len(), rec.as_mut_ptr(), rec.len(), h, s, t, l, lift) },
+        scan: |i, rec, h, s, t, l, lane, lift| unsafe { lpt_scan(i.as_ptr(), i.len(), rec.as_mut_ptr(), rec.len(), h, s, t, l, lane, lift) },
         write_keys: |k, lift, o| unsafe { lpt_write_keys(k.as_ptr(), k.len(), lift, o.as_mut_ptr(), o.len()) },
         key: |h, s| unsafe { lpt_key(h, s) },
         admission_of: |k| unsafe { lpt_admission_of(k) },
@@ -193,10 +193,31 @@ fn in_rect(keys: &[u32], q: Rect, mut each: impl FnMut(u32)) {
 
 // ---- answers first
 
+/// The lanes of a gate, and six numbers that are none; the last two would be lanes if they were cut to 8 or 16 bits.
+fn lanes() -> impl Iterator<Item = u32> {
+    (1..=LANES as u32).chain([0, 9, 255, 1 << 31, 256 + 1, 65536 + 8])
+}
+
+/// One scan in that lane, with time, lockout and records by chance; now and then the length is wrong, or the lane's or another lane's count is the largest.
+fn compare_scan(img: &[u8], keys: usize, k: Admission, lane: u32, gate: u32, r: &mut Rng, a: &Jobs, b: &Jobs) -> i64 {
+    let more = match r.below(12) { 0 => 1, 1 => LANES - 1, 2 => LANES + 1, _ => LANES };
+    let mut u: Vec<u32> = (0..keys + more).map(|_| if r.below(2) == 0 { 0 } else { r.below(2000) as u32 }).collect();
+    let at = match r.below(6) { 0 => lane.wrapping_sub(1) as usize, 1 => lane as usize % LANES, _ => LANES };
+    if at < LANES.min(more) {
+        u[keys + at] = u32::MAX;
+    }
+    let mut v = u.clone();
+    let (t, l) = (if r.below(20) == 0 { u32::MAX } else { r.below(2000) as u32 }, r.below(900) as u32);
+    let (x, y) = ((a.scan)(img, &mut u, k.holder, k.slot, t, l, lane, gate), (b.scan)(img, &mut v, k.holder, k.slot, t, l, lane, gate));
+    assert!(x == y && u == v, "scan in lane {lane} {x} {y}");
+    x
+}
+
 /// Both give the same answers and leave the same buffers, on sound and damaged images.
 fn compare(ds: &[Data], a: &Jobs, b: &Jobs) -> usize {
     let mut r = Rng(99);
     let mut n = 0;
+    let mut scans = BTreeSet::new();
     for d in ds {
         for round in 0..400 {
             let step = 1 + r.below(if round < 20 { 3 } else { 400 }) as usize;
@@ -259,15 +280,19 @@ fn compare(ds: &[Data], a: &Jobs, b: &Jobs) -> usize {
                 let (mut u, mut v) = (vec![5u32; room], vec![5u32; room]);
                 let (x, y) = ((a.list)(&img, q, &mut u), (b.list)(&img, q, &mut v));
                 assert!(x == y && u == v, "list {x} {y}");
-                let wrong = (r.below(10) == 0) as usize;
-                let mut u: Vec<u32> = (0..list.len() + 1 + wrong).map(|_| if r.below(2) == 0 { 0 } else { r.below(2000) as u32 }).collect();
-                let mut v = u.clone();
-                let (t, l) = (r.below(2000) as u32, r.below(900) as u32);
                 let gate = if i % 5 == 4 { lift + 65536 * r.below(2) as u32 + r.below(2) as u32 } else { lift };
-                let (x, y) = ((a.scan)(&img, &mut u, k.holder, k.slot, t, l, gate), (b.scan)(&img, &mut v, k.holder, k.slot, t, l, gate));
-                assert!(x == y && u == v, "scan {x} {y}");
-                n += 7;
+                for lane in lanes() {
+                    let x = compare_scan(&img, list.len(), k, lane, gate, &mut r, a, b);
+                    scans.insert((lane, x.min(0)));
+                }
+                n += 6 + lanes().count();
             }
+        }
+    }
+    // each lane opened and got each refusal of a scan but 29; each other number got 36 and 29
+    for lane in lanes() {
+        for x in if lane.wrapping_sub(1) < LANES as u32 { &[0, -36, -21, -22, -23, -24, -25, -26][..] } else { &[-36, -29][..] } {
+            assert!(scans.contains(&(lane, *x)), "no scan in lane {lane} that gives {x}");
         }
     }
     n
@@ -331,8 +356,8 @@ fn rows(d: &'static Data, both: &[Jobs]) -> Vec<Row> {
         Some(case("sorted array", 1, move || bb(&d.keys).len() as u64)));
     add("list, whole square", &|j| { let (f, mut o) = (j.list, vec![0u32; N]); case(j.name, 1, move || f(bb(img), whole, &mut o) as u64) },
         Some(case("sorted array", 1, { let mut o = vec![0u32; N]; move || { o.copy_from_slice(bb(&d.keys)); bb(&o)[7] as u64 } })));
-    add("scan that opens", &|j| { let (f, mut rec, mut t) = (j.scan, vec![0u32; N + 1], 0u32);
-        case(j.name, 32, move || { t += 1; rec[N] = 0; d.hits[..32].iter().map(|&k| { let (h, s) = unweave(k); f(bb(img), &mut rec, h, s, t, 0, LIFT) as u64 }).sum() }) }, None);
+    add("scan that opens", &|j| { let (f, mut rec, mut t) = (j.scan, vec![0u32; N + LANES], 0u32);
+        case(j.name, 32, move || { t += 1; rec[N..].fill(0); d.hits[..32].iter().zip((1..=LANES as u32).cycle()).map(|(&k, lane)| { let (h, s) = unweave(k); f(bb(img), &mut rec, h, s, t, 0, lane, LIFT) as u64 }).sum() }) }, None);
     rows
 }
 

@@ -24,6 +24,9 @@ pub struct Admission {
     pub slot: u16,
 }
 
+/// The lanes of a gate; their counts end the records, lane 1's first.
+pub const LANES: usize = 8;
+
 /// The most bytes that an image can have.
 pub const MOST_BYTES: usize = 24_640;
 
@@ -727,23 +730,29 @@ pub fn list(img: &[u8], q: Rect, buf: &mut [u32]) -> Result<u32, No> {
 
 // ---------------------------------------------------------------------------------------- scan
 
-pub fn scan(img: &[u8], rec: &mut [u32], holder: u16, slot: u16, time: u32, lockout: u32, lift: u32) -> Result<u32, No> {
+pub fn scan(img: &[u8], rec: &mut [u32], holder: u16, slot: u16, time: u32, lockout: u32, lane: u32, lift: u32) -> Result<u32, No> {
     let h = accepted(img)?;
     if h.lift != 0 && h.lift != lift {
         return Err(No(36));
     }
+    let lane = lane.wrapping_sub(1) as usize;
+    if lane >= LANES {
+        return Err(No(29));
+    }
     let n = h.keys as usize;
-    if rec.len() != n + 1 {
+    if rec.len() != n + LANES {
         return Err(No(21));
     }
     if time == u32::MAX {
         return Err(No(22));
     }
-    if rec[n] == u32::MAX {
+    let (records, counts) = rec.split_at_mut(n);
+    let count = &mut counts[lane];
+    if *count == u32::MAX {
         return Err(No(23));
     }
     let Some(f) = walk(img, &h, weave(holder, slot)) else { return Err(No(24)) };
-    let r = &mut rec[f.rank as usize];
+    let r = &mut records[f.rank as usize];
     if *r != 0 {
         if time < *r - 1 {
             return Err(No(25));
@@ -753,7 +762,7 @@ pub fn scan(img: &[u8], rec: &mut [u32], holder: u16, slot: u16, time: u32, lock
         }
     }
     *r = time + 1;
-    rec[n] += 1;
+    *count += 1;
     Ok(f.rank)
 }
 
