@@ -16,7 +16,7 @@ use Rattle.format.specs.Header.{mark, versionFor}
 use Rattle.format.specs.Image.{bands, keyCount, liftOf, outLinkCount, pageB, pageCount, pageLevels, pageNodes, pagePairs, pageRoots, pageT, rootCount, versionOf}
 use Rattle.format.specs.Question.{Yes, bandQuestions, countsFit, firstNo, headRight, headerQuestions, imageQuestions, isLift, isPositive, isZero, liftRight, markRight, noRoom, nodeQuestions, outLinksDue, pageNeeded, pageQuestions, versionKnown, zerosRight}
 use Rattle.format.proofs.Lists.{and-left, and-right, and-both, or-first, or-second, or-rest, all-append, all-left, all-right, all-flatMap, flatMap-all, all-upTo, upTo-all, all-numbers, numbers-all, every-all, all-every}
-use Rattle.format.proofs.Questions.{yes-of-none, none-of-yes}
+use Rattle.format.proofs.Questions.{yes-of-none, none-of-yes, of-range, range-of}
 use Rattle.format.proofs.Jobs.{lift-range, lift-yes}
 use Rattle.format.proofs.Bytes.{all-zero, zero-all}
 use Rattle.format.proofs.HeaderBytes.{version-some}
@@ -224,8 +224,8 @@ unfolding pageQuestions nodeQuestions pageNodes pageLevels
 page-of img b i h =
     record {
       counters = counters-of img b i (h .0);
-      some-roots = leb-true 1 (pageRoots img b i) (and-left (leb 1 (pageRoots img b i)) (leb (pageRoots img b i) 60) (h .1 .0));
-      few-roots = leb-true (pageRoots img b i) 60 (and-right (leb 1 (pageRoots img b i)) (leb (pageRoots img b i) 60) (h .1 .0));
+      some-roots = range-of 60 (pageRoots img b i) (h .1 .0) .0;
+      few-roots = range-of 60 (pageRoots img b i) (h .1 .0) .1;
       within = leb-true (pageNodes img b i) 240 (and-left (leb (pageNodes img b i) 240) (every (every isPositive) (pageLevels img b i)) (h .1 .1 .0));
       positive = every-all (every isPositive) (pageLevels img b i) (and-right (leb (pageNodes img b i) 240) (every (every isPositive) (pageLevels img b i)) (h .1 .1 .0));
       zeros = h .1 .1 .1 .0;
@@ -237,7 +237,7 @@ unfolding pageQuestions nodeQuestions pageNodes pageLevels
 of-page img b i h = (
   of-counters img b i (h .counters),
   (
-    and-both (le-leb 1 (pageRoots img b i) (h .some-roots)) (le-leb (pageRoots img b i) 60 (h .few-roots)),
+    of-range 60 (pageRoots img b i) (h .some-roots) (h .few-roots),
     (and-both (le-leb (pageNodes img b i) 240 (h .within)) (all-every (every isPositive) (pageLevels img b i) (h .positive)), (h .zeros, (of-full img b i (h .full), tt))),
   ),
 )

@@ -6,8 +6,8 @@ use mathlib.Core.List.{List, [], _∷_, _++_}
 use Prim.Native.Nat.{ℕ, zero, suc, _+_, _≤_, _<_}
 use native.Mathlib.Omega.{arith}
 use native.Mathlib.Decide.{ℕ-discrete}
-use lib.Dec.{eqb, leb, ltb}
-use borrow.Author.Tests.{eq-eqb, ne-eqb, eqb-true, le-ltb, leb-true}
+use lib.Dec.{eqb, ltb}
+use borrow.Author.Tests.{eq-eqb, ne-eqb, eqb-true, le-ltb}
 use lib.ListN.{length, getD, set, replicate, length-set, length-append}
 use lib.Seq.{getD-set-same, getD-set-other}
 use Rattle.format.specs.Seq.{All, consIf, isIn, rankIn, select}
@@ -17,8 +17,8 @@ use Rattle.format.specs.Image.{keyCount, keysOf}
 use Rattle.format.specs.Question.{Outcome, Question, Yes, imageQuestions, refused, returns, settle}
 use Rattle.format.specs.Scan.{gateQuestions, isLane, lanePlace, opened, recordsAfter, recordsAfterScan, recordsLength, scan, scanQuestions}
 use Rattle.format.specs.History.{Card, FromZeros, History, LockoutNotRestarted, Opening, afterCard, afterCards, atRank, inLane, noRecords, openingOf, openings, recordAfter, scanOf}
-use Rattle.format.proofs.Lists.{all-left, all-right, and-left, and-right}
-use Rattle.format.proofs.Questions.{none-of-yes, yes-of-none}
+use Rattle.format.proofs.Lists.{all-left, all-right}
+use Rattle.format.proofs.Questions.{none-of-yes, range-of, yes-of-none}
 use Rattle.format.proofs.Members.{rank-le, select-append}
 use Rattle.format.proofs.Checked.{checked, cond-no, cond-yes}
 use Rattle.format.proofs.Back.{listed}
@@ -43,7 +43,7 @@ rank-below (y ∷ ys) x h =
 -- a lane's number
 pub lane-range : (lane : ℕ) → isLane lane ≡ true → (1 ≤ lane) × (lane ≤ 8)
 unfolding isLane
-lane-range lane h = (leb-true 1 lane (and-left (leb 1 lane) (leb lane 8) h), leb-true lane 8 (and-right (leb 1 lane) (leb lane 8) h))
+lane-range lane h = range-of 8 lane h
 
 -- what is known of an opening
 record Opened (img records : List ℕ) (rank lane : ℕ) : Type 0 where

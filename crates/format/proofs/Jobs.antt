@@ -7,12 +7,10 @@ use mathlib.Core.List.{List}
 use Prim.Native.Nat.{ℕ, _≤_}
 use native.Mathlib.Omega.{arith}
 use borrow.Author.Tests.{le-leb, leb-true}
-use lib.Dec.{leb}
 use lib.ListN.{length}
 use Rattle.format.specs.Question.{Question, firstNo, isLift, outcome, refused, returns, settle}
 use Rattle.format.specs.Writer.{ascending, listQuestions}
-use Rattle.format.proofs.Lists.{and-both, and-left, and-right}
-use Rattle.format.proofs.Questions.{none-of-yes, yes-of-none}
+use Rattle.format.proofs.Questions.{none-of-yes, of-range, range-of, yes-of-none}
 
 -- a refusal is the first no, and a job that returns got a yes throughout
 pub no-of-refused : {A : Type 0} (qs : List Question) (a : A) (n : ℕ) → settle qs a ≡ refused n → firstNo qs ≡ some n
@@ -43,8 +41,8 @@ of-writable keys e = let y = yes-of-none (listQuestions keys) e in (leb-true (le
 -- 35: a lift number is 1 to 999
 pub lift-range : (n : ℕ) → isLift n ≡ true → (1 ≤ n) × (n ≤ 999)
 unfolding isLift
-lift-range n h = (leb-true 1 n (and-left (leb 1 n) (leb n 999) h), leb-true n 999 (and-right (leb 1 n) (leb n 999) h))
+lift-range n h = range-of 999 n h
 
 pub lift-yes : (n : ℕ) → 1 ≤ n → n ≤ 999 → isLift n ≡ true
 unfolding isLift
-lift-yes n lo hi = and-both (le-leb 1 n lo) (le-leb n 999 hi)
+lift-yes n lo hi = of-range 999 n lo hi

@@ -4,13 +4,15 @@ use mathlib.Core.Path.{_≡_, refl, sym, ap, _∙_}
 use mathlib.Core.Bool.{Bool, true, false, cond}
 use mathlib.Core.Option.{none, some}
 use mathlib.Core.List.{List, [], _∷_, _++_, flatMap, append-assoc}
-use Prim.Native.Nat.{ℕ, suc, _+_, _-_, _<_}
+use Prim.Native.Nat.{ℕ, suc, _+_, _-_, _≤_, _<_}
 use native.Mathlib.Nat.{zero-add}
 use native.Mathlib.Numerals.{add-one}
 use Rattle.format.specs.Seq.{All, numbersFrom, upTo}
-use Rattle.format.specs.Question.{Question, Yes, firstNo}
+use Rattle.format.specs.Question.{Question, Yes, firstNo, oneTo}
 use native.Mathlib.Omega.{arith}
-use Rattle.format.proofs.Lists.{numbers-split}
+use borrow.Author.Tests.{le-leb, leb-true}
+use lib.Dec.{leb}
+use Rattle.format.proofs.Lists.{and-both, and-left, and-right, numbers-split}
 
 -- no first no: every question got a yes
 pub yes-of-none : (qs : List Question) → firstNo qs ≡ none → All Yes qs
@@ -26,6 +28,13 @@ pub none-of-yes : (qs : List Question) → All Yes qs → firstNo qs ≡ none
 unfolding firstNo
 none-of-yes [] h = refl
 none-of-yes (q ∷ qs) h = rw (h .0) (none-of-yes qs (h .1))
+
+-- what a question of 1 to m asks
+pub range-of : (m n : ℕ) → oneTo m n ≡ true → (1 ≤ n) × (n ≤ m)
+range-of m n h = (leb-true 1 n (and-left (leb 1 n) (leb n m) h), leb-true n m (and-right (leb 1 n) (leb n m) h))
+
+pub of-range : (m n : ℕ) → 1 ≤ n → n ≤ m → oneTo m n ≡ true
+of-range m n lo hi = and-both (le-leb 1 n lo) (le-leb n m hi)
 
 -- one question after another
 module _ (n : ℕ) (t : Bool) (qs : List Question) where

@@ -52,6 +52,10 @@ isZero n = eqb n 0
 unfoldable pub isPositive : ℕ → Bool
 isPositive n = leb 1 n
 
+-- whether n is one of 1 to m
+abbrev pub oneTo : ℕ → ℕ → Bool
+oneTo m n = leb 1 n && leb n m
+
 -- 2: the first three bytes are the mark
 unfoldable pub markRight : List ℕ → Bool
 markRight img = every (λ i. eqb (getD img i 0) (getD mark i 0)) (upTo 3)
@@ -66,7 +70,7 @@ zerosRight img = isZero (getD img 5 0) && (eqb (versionOf img) 2 || isZero (numb
 
 -- a lift number: 1 to 999
 unfoldable pub isLift : ℕ → Bool
-isLift n = leb 1 n && leb n 999
+isLift n = oneTo 999 n
 
 -- 35: the lift of version 2 is a lift number
 unfoldable pub liftRight : List ℕ → Bool
@@ -102,7 +106,7 @@ headRight img b (suc i) = eqb (pageB img b (suc i)) (pageB img b i + outLinkCoun
 -- 9 to 11, of a page's 240 pairs with r roots
 unfoldable pub nodeQuestions : ℕ → List ℕ → List Question
 nodeQuestions r pairs =
-    (9, leb 1 r && leb r 60)
+    (9, oneTo 60 r)
     ∷ (10, leb (nodeCount r (levelsIn 4 r pairs)) 240 && every (every isPositive) (levelsIn 4 r pairs))
     ∷ (11, every isZero (drop (nodeCount r (levelsIn 4 r pairs)) pairs))
     ∷ []

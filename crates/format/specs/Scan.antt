@@ -1,14 +1,14 @@
 -- The gate's scan: its questions, what it returns, and the record buffer at exit.
 -- Assumes nothing.
 use Prim.Native.Nat.{ℕ, _+_, _-_}
-use mathlib.Core.Bool.{Bool, _&&_, _||_}
+use mathlib.Core.Bool.{Bool, _||_}
 use mathlib.Core.List.{List, [], _∷_, _++_}
 use lib.Dec.{leb, ltb, eqb}
 use lib.ListN.{length, getD, set}
 use Rattle.format.specs.Seq.{isIn, rankIn}
 use Rattle.format.specs.Key.{keyOf}
 use Rattle.format.specs.Image.{keyCount, keysOf, liftOf}
-use Rattle.format.specs.Question.{Question, Outcome, refused, returns, settle, isZero, imageQuestions}
+use Rattle.format.specs.Question.{Question, Outcome, refused, returns, settle, isZero, oneTo, imageQuestions}
 
 -- the largest 32-bit number
 abbrev pub largest32 : ℕ
@@ -22,7 +22,7 @@ recordsLength n = n + 8
 
 -- whether a number is a lane's: 1 to 8
 unfoldable pub isLane : ℕ → Bool
-isLane lane = leb 1 lane && leb lane 8
+isLane lane = oneTo 8 lane
 
 -- the place of a lane's count
 abbrev pub lanePlace : ℕ → ℕ → ℕ
