@@ -1,33 +1,17 @@
 -- Questions 8 to 12 of a page asked in order. Assumes nothing.
-use mathlib.Core.Path.{_≡_, refl, sym, ap, ap₂, _∙_}
+use mathlib.Core.Path.{_≡_, sym, ap, ap₂, _∙_}
 use mathlib.Core.Bool.{_&&_}
-use mathlib.Core.List.{List, _++_}
+use mathlib.Core.List.{List}
 use mathlib.Core.Option.{some}
-use Prim.Native.Nat.{ℕ, zero, suc, _+_, _-_, _≤_, _<_}
+use Prim.Native.Nat.{ℕ, _+_, _-_, _≤_, _<_}
 use native.Mathlib.Omega.{arith}
 use borrow.Author.Tests.{eq-eqb, ne-eqb, le-leb, lt-leb}
 use lib.Dec.{eqb, leb}
 use Rattle.format.specs.Page.{numberAt, pairsAt}
-use Rattle.format.specs.Question.{Question, firstNo, nodeQuestions}
-use Rattle.format.proofs.Questions.{after-no, after-yes, asked-no, asked-yes}
+use Rattle.format.specs.Question.{firstNo, nodeQuestions}
+use Rattle.format.proofs.Questions.{asked-no, asked-yes}
 use Rattle.checker.specs.declared.page.Shape.{Shape}
-use Rattle.header.specs.Refusal.{refusalOf}
 use Rattle.checker.specs.Paged.{questionsAfter, questionsAt, Asked}
-
--- ---- the number of the first no
-
--- a no among the first questions is that of all
-pub refused-first : (x : ℕ) (qs rs : List Question) → (x ≡ 0 → ⊥) → refusalOf x ≡ firstNo qs → refusalOf x ≡ firstNo (qs ++ rs)
-unfolding refusalOf
-refused-first zero qs rs n e = absurd (n refl)
-refused-first (suc x) qs rs n e = sym (after-no qs rs (suc x) (sym e))
-
--- without one the others decide
-pub passed-first : (x : ℕ) (qs rs : List Question) → x ≡ 0 → refusalOf x ≡ firstNo qs → firstNo (qs ++ rs) ≡ firstNo rs
-unfolding refusalOf
-passed-first x qs rs z e = after-yes qs rs (sym (sym (ap refusalOf z) ∙ e))
-
--- ---- a page
 
 module _ (img : List ℕ) (at t b next previous : ℕ) where
   module _ (x : ℕ) (ex : x ≡ numberAt img at) where

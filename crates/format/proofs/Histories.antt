@@ -16,7 +16,7 @@ use Rattle.format.specs.Page.{Byte}
 use Rattle.format.specs.Image.{keyCount, keysOf}
 use Rattle.format.specs.Question.{Outcome, Question, Yes, imageQuestions, refused, returns, settle}
 use Rattle.format.specs.Scan.{gateQuestions, isLane, lanePlace, opened, recordsAfter, recordsAfterScan, recordsLength, scan, scanQuestions}
-use Rattle.format.specs.History.{Card, FromZeros, History, LockoutNotRestarted, Opening, afterCard, afterCards, atRank, inLane, noRecords, openingOf, openings, recordAfter, scanOf}
+use Rattle.format.specs.History.{Card, History, Opening, afterCard, afterCards, atRank, inLane, noRecords, openingOf, openings, recordAfter, scanOf}
 use Rattle.format.proofs.Lists.{all-left, all-right}
 use Rattle.format.proofs.Questions.{none-of-yes, range-of, yes-of-none}
 use Rattle.format.proofs.Members.{rank-le, select-append}

@@ -4,7 +4,7 @@ use mathlib.Core.Path.{_≡_, refl, sym, ap, _∙_}
 use mathlib.Core.Bool.{Bool, true, false, _||_, cond}
 use mathlib.Core.Option.{none, some}
 use mathlib.Core.List.{List, map}
-use Prim.Native.Nat.{ℕ, zero, suc, _≤_, _<_}
+use Prim.Native.Nat.{ℕ, _≤_, _<_}
 use native.Mathlib.Omega.{arith}
 use lib.Dec.{eqb}
 use borrow.Author.Tests.{eq-eqb, ne-eqb}
@@ -22,7 +22,7 @@ use Rattle.format.proofs.Checked.{checked}
 use Rattle.format.proofs.Back.{listed as list-facts}
 use Rattle.format.proofs.Histories.{rank-below}
 use Rattle.header.specs.Refusal.{refusalOf}
-use Rattle.gate.proofs.Admits.{none-of-zero}
+use Rattle.header.proofs.Refusals.{none-refused, passed-first, refused-first, refused-outcome}
 
 -- 36
 module _ (lift : ℕ) (img : List ℕ) (n : ℕ) (e : n ≡ liftOf img) where
@@ -106,42 +106,38 @@ module _ (lift : ℕ) (img records : List ℕ) (lane holder slot time lockout : 
     unfolding scan settle
     scan-is = ap (λ o. outcome o own-rank) (after-yes (imageQuestions img) _ (image-yes img holder slot answer e))
 
-    asked : firstNo (gateQuestions (liftFits lift img) (keyCount img) records lane (isIn own-key (keysOf img)) time) ≡ refusalOf refusal
-    asked = (λ i. firstNo (gateQuestions (sym l i) (sym k i) records lane (is-in i) time)) ∙ sym first
+    asked : refusalOf refusal ≡ firstNo (gateQuestions (liftFits lift img) (keyCount img) records lane (isIn own-key (keysOf img)) time)
+    asked = first ∙ (λ i. firstNo (gateQuestions (l i) (k i) records lane (sym is-in i) time))
 
     -- one of them gets a no
-    refused-first : (refusal ≡ 0 → ⊥) → Done (refused refusal) records
-    unfolding scanQuestions settle outcome recordsAfter
-    refused-first some-no =
-        done (refused refusal) (sym (scan-is ∙ ap (λ o. outcome o own-rank) (after-no _ (lockoutQuestions (recordOf img records own-key) time lockout) refusal (asked ∙ go refusal some-no))))
-      where
-        go : (r : ℕ) → (r ≡ 0 → ⊥) → refusalOf r ≡ some r
-        go zero ne = absurd (ne refl)
-        go (suc r) ne = unfold refusalOf in refl
+    gate-refused : (refusal ≡ 0 → ⊥) → Done (refused refusal) records
+    unfolding scanQuestions settle recordsAfter
+    gate-refused some-no =
+        done (refused refusal) (refused-outcome refusal own-rank some-no ∙ ap (λ o. outcome o own-rank) (refused-first refusal _ asked (lockoutQuestions (recordOf img records own-key) time lockout) some-no) ∙ sym scan-is)
 
     -- none does, and 25 and 26 decide
-    passed-first : refusal ≡ 0 → scan lift img records lane holder slot time lockout ≡ settle (lockoutQuestions (recordOf img records own-key) time lockout) own-rank
+    gate-passed : refusal ≡ 0 → scan lift img records lane holder slot time lockout ≡ settle (lockoutQuestions (recordOf img records own-key) time lockout) own-rank
     unfolding scanQuestions settle
-    passed-first z = scan-is ∙ ap (λ o. outcome o own-rank) (after-yes _ (lockoutQuestions (recordOf img records own-key) time lockout) (none-of-zero (sym asked) z))
+    gate-passed z = scan-is ∙ ap (λ o. outcome o own-rank) (passed-first refusal _ asked (lockoutQuestions (recordOf img records own-key) time lockout) z)
 
   -- an admission that is not listed: 24 at the latest
   pub scanned-absent : (n refusal : ℕ) (f : Bool) → lookup img holder slot ≡ returns absent → n ≡ keyCount img → f ≡ liftFits lift img → refusalOf refusal ≡ firstNo (gateQuestions f n records lane false time)
       → Done (refused refusal) records
   unfolding gateQuestions
   scanned-absent n refusal f e k l first =
-      refused-first absent e n f false k l (off img holder slot e) refusal first (λ z. let absent-in : false ≡ true = yes-of-none _ (none-of-zero first z) .1 .1 .1 .1 .1 .0 in let w : _≡_ {A = ℕ} 0 1 = cc in omega arith)
+      gate-refused absent e n f false k l (off img holder slot e) refusal first (λ z. let absent-in : false ≡ true = yes-of-none _ (none-refused refusal _ first z) .1 .1 .1 .1 .1 .0 in let w : _≡_ {A = ℕ} 0 1 = cc in omega arith)
 
   -- a listed one
   module _ (rank : ℕ) (pages : List ℕ) (e : lookup img holder slot ≡ returns (listed rank pages)) (n refusal : ℕ) (f : Bool) (k : n ≡ keyCount img) (l : f ≡ liftFits lift img)
       (first : refusalOf refusal ≡ firstNo (gateQuestions f n records lane true time)) where
     -- 36, 29 and 21 to 24
     pub scanned-no : (refusal ≡ 0 → ⊥) → Done (refused refusal) records
-    scanned-no = refused-first (listed rank pages) e n f true k l (on img holder slot rank pages e .0) refusal first
+    scanned-no = gate-refused (listed rank pages) e n f true k l (on img holder slot rank pages e .0) refusal first
 
     -- 25 and 26, of the rank's record
     pub scanned-yes : refusal ≡ 0 → (o : Outcome ℕ) (after : List ℕ) → (o ≡ settle (lockoutQuestions (getD records rank 0) time lockout) rank) × (after ≡ recordsAfter o n records lane time) → Done o after
     unfolding recordOf
     scanned-yes z o after d =
         let own : rank ≡ own-rank = sym (on img holder slot rank pages e .1) in
-        let all = done o (d .0 ∙ (λ i. settle (lockoutQuestions (getD records (own i) 0) time lockout) (own i)) ∙ sym (passed-first (listed rank pages) e n f true k l (on img holder slot rank pages e .0) refusal first z)) in
+        let all = done o (d .0 ∙ (λ i. settle (lockoutQuestions (getD records (own i) 0) time lockout) (own i)) ∙ sym (gate-passed (listed rank pages) e n f true k l (on img holder slot rank pages e .0) refusal first z)) in
         (all .0, d .1 ∙ ap (λ (m : ℕ). recordsAfter o m records lane time) k ∙ all .1)

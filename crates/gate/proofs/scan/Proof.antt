@@ -5,13 +5,13 @@ use mathlib.Core.Option.{none}
 use Prim.Native.Nat.{_<_}
 use native.Mathlib.Omega.{arith}
 use borrow.Author.Needs.{needs}
-use Rattle.format.specs.Image.{keyCount}
 use Rattle.format.specs.Question.{firstNo, returns as answers}
 use Rattle.format.specs.Answer.{LookupAnswer, absent, listed, lookup}
 use Rattle.format.specs.Scan.{gateQuestions}
 use Rattle.query.specs.Outcomes.{lookupOutcome}
+use Rattle.header.proofs.Refusals.{none-refused}
 use Rattle.nodes.proofs.Numbers.{bytes-of}
-use Rattle.gate.proofs.Admits.{fits-yes, none-of-zero, records-fit}
+use Rattle.gate.proofs.Admits.{fits-yes, records-fit}
 use Rattle.gate.proofs.Scans.{header-long, image-refused, rank-small, scanned-absent, scanned-no, scanned-yes}
 use Rattle.gate.proofs.scan.Statement.{statement}
 use Rattle.gate.proofs.scan.Tie as tie
@@ -69,7 +69,7 @@ below k =
 
 -- 36, 29 and 21 to 24 got a yes
 passed : (c : tie.Else1) → firstNo (gateQuestions true (c .before .before .before .before .key-count2 .result) (c .before .before .before .before .before .before .before .before .before .before .before .args .records .now) (c .before .before .before .before .before .before .before .before .before .before .before .args .lane) true (c .before .before .before .before .before .before .before .before .before .before .before .args .time)) ≡ none
-passed c = fits-yes _ _ _ _ _ _ (none-of-zero (c .before .gate-refusal2 .ensures) (c .if1 .left))
+passed c = fits-yes _ _ _ _ _ _ (none-refused _ _ (c .before .gate-refusal2 .ensures) (c .if1 .left))
 
 slice-read-last : tie.Need-slice-read-last
 slice-read-last c = omega (arith, below (c .before .before .before .before .before), records-fit _ _ _ _ _ _ (passed (c .before)) .size)
