@@ -1,5 +1,5 @@
--- A gate's history: one lift number, one image, and scans one after the other; and the statement of what the records then tell. The proof is
--- proofs/Histories.antt.
+-- A gate's history: scans one after the other, each with its own image and lift, over one record buffer; and the statement of what the records then
+-- tell. The proof is proofs/Histories.antt.
 -- Assumes nothing.
 use mathlib.Core.Path.{_≡_}
 use Prim.Native.Nat.{ℕ, _+_, _<_}
@@ -9,30 +9,31 @@ use lib.Dec.{eqb}
 use lib.ListN.{length, getD, replicate}
 use Rattle.format.specs.Seq.{All, select}
 use Rattle.format.specs.Page.{Byte}
-use Rattle.format.specs.Image.{keyCount}
 use Rattle.format.specs.Question.{Outcome, refused, returns}
 use Rattle.format.specs.Scan.{isLane, lanePlace, recordsAfterScan, recordsLength, scan}
 
 -- ---- scans
 
--- what a card brings to the gate, and the lane in which it does
+-- what a scan brings beside the record buffer: the gate's lift and image, what is on the card, the time, the lockout and the lane
 pub record Card : Type 0 where
+  pub lift : ℕ
+  pub image : List ℕ
   pub holder : ℕ
   pub slot : ℕ
   pub time : ℕ
   pub lockout : ℕ
   pub lane : ℕ
 
-abbrev pub scanOf : ℕ → List ℕ → List ℕ → Card → Outcome ℕ
-scanOf lift img records card = scan lift img records (card .lane) (card .holder) (card .slot) (card .time) (card .lockout)
+abbrev pub scanOf : List ℕ → Card → Outcome ℕ
+scanOf records card = scan (card .lift) (card .image) records (card .lane) (card .holder) (card .slot) (card .time) (card .lockout)
 
-abbrev pub afterCard : ℕ → List ℕ → List ℕ → Card → List ℕ
-afterCard lift img records card = recordsAfterScan lift img records (card .lane) (card .holder) (card .slot) (card .time) (card .lockout)
+abbrev pub afterCard : List ℕ → Card → List ℕ
+afterCard records card = recordsAfterScan (card .lift) (card .image) records (card .lane) (card .holder) (card .slot) (card .time) (card .lockout)
 
 -- the records after all cards
-unfoldable pub afterCards : ℕ → List ℕ → List ℕ → List Card → List ℕ
-afterCards lift img records [] = records
-afterCards lift img records (card ∷ cards) = afterCards lift img (afterCard lift img records card) cards
+unfoldable pub afterCards : List ℕ → List Card → List ℕ
+afterCards records [] = records
+afterCards records (card ∷ cards) = afterCards (afterCard records card) cards
 
 -- ---- openings
 
@@ -48,9 +49,9 @@ openingOf (refused n) card = []
 openingOf (returns rank) card = record { rank = rank; lane = card .lane; time = card .time } ∷ []
 
 -- the openings among the cards, in order
-unfoldable pub openings : ℕ → List ℕ → List ℕ → List Card → List Opening
-openings lift img records [] = []
-openings lift img records (card ∷ cards) = openingOf (scanOf lift img records card) card ++ openings lift img (afterCard lift img records card) cards
+unfoldable pub openings : List ℕ → List Card → List Opening
+openings records [] = []
+openings records (card ∷ cards) = openingOf (scanOf records card) card ++ openings (afterCard records card) cards
 
 -- those at a rank, and those in a lane
 unfoldable pub atRank : ℕ → List Opening → List Opening
@@ -64,26 +65,37 @@ unfoldable pub recordAfter : ℕ → List Opening → ℕ
 recordAfter x [] = x
 recordAfter x (o ∷ os) = recordAfter (o .time + 1) os
 
--- ---- what is promised
+-- ---- what is promised of a record buffer for n keys
 
--- a record buffer of zeros
-unfoldable pub noRecords : List ℕ → List ℕ
-noRecords img = replicate (recordsLength (keyCount img)) 0
+-- one of zeros
+unfoldable pub noRecords : ℕ → List ℕ
+noRecords n = replicate (recordsLength n) 0
 
--- what a buffer of zeros that scans alone write holds after the scans of all cards
-pub record FromZeros (lift : ℕ) (img : List ℕ) (cards : List Card) : Type 0 where
+-- what one of zeros holds after some openings
+pub record FromZeros (n : ℕ) (os : List Opening) (after : List ℕ) : Type 0 where
   -- each lane's count is the number of scans that opened in the lane
-  pub lanes : (lane : ℕ) → isLane lane ≡ true → getD (afterCards lift img (noRecords img) cards) (lanePlace (keyCount img) lane) 0 ≡ length (inLane lane (openings lift img (noRecords img) cards))
+  pub lanes : (lane : ℕ) → isLane lane ≡ true → getD after (lanePlace n lane) 0 ≡ length (inLane lane os)
   -- each record is 0 where its rank never opened, else the time of its last opening + 1
-  pub ranks : (rank : ℕ) → rank < keyCount img → getD (afterCards lift img (noRecords img) cards) rank 0 ≡ recordAfter 0 (atRank rank (openings lift img (noRecords img) cards))
+  pub ranks : (rank : ℕ) → rank < n → getD after rank 0 ≡ recordAfter 0 (atRank rank os)
 
--- refused scans restart nobody's lockout: a rank that opens under none of the cards, however many of them are refused and whoever else opens, keeps its
--- record
-abbrev pub LockoutNotRestarted : ℕ → List ℕ → List ℕ → List Card → Type 0
-LockoutNotRestarted lift img records cards =
-    (rank : ℕ) → rank < keyCount img → atRank rank (openings lift img records cards) ≡ [] → getD (afterCards lift img records cards) rank 0 ≡ getD records rank 0
+-- what one that held records holds after some openings: each lane's count has grown by their number in the lane, and each record is told by its own
+pub record Recorded (n : ℕ) (records : List ℕ) (os : List Opening) (after : List ℕ) : Type 0 where
+  pub size : length after ≡ length records
+  pub lanes : (lane : ℕ) → isLane lane ≡ true → getD after (lanePlace n lane) 0 ≡ getD records (lanePlace n lane) 0 + length (inLane lane os)
+  pub ranks : (rank : ℕ) → rank < n → getD after rank 0 ≡ recordAfter (getD records rank 0) (atRank rank os)
 
--- the statement: of any bytes and any cards, and the second from any records
+-- the cards' images are bytes
+abbrev pub Images : List Card → Type 0
+Images = All (λ card. All Byte (card .image))
+
+-- the statement: of any scans one after the other
 pub record History : Type 0 where
-  pub from-zeros : (lift : ℕ) (img : List ℕ) (cards : List Card) → All Byte img → FromZeros lift img cards
-  pub lockout-not-restarted : (lift : ℕ) (img records : List ℕ) (cards : List Card) → All Byte img → LockoutNotRestarted lift img records cards
+  -- from a buffer of zeros that scans alone write
+  pub from-zeros : (n : ℕ) (cards : List Card) → Images cards → FromZeros n (openings (noRecords n) cards) (afterCards (noRecords n) cards)
+  -- from any records
+  pub recorded : (n : ℕ) (records : List ℕ) → length records ≡ recordsLength n → (cards : List Card) → Images cards
+      → Recorded n records (openings records cards) (afterCards records cards)
+  -- refused scans restart nobody's lockout: a rank that opens under none of the cards, however many of them are refused and whoever else opens, keeps
+  -- its record
+  pub lockout-not-restarted : (n : ℕ) (records : List ℕ) → length records ≡ recordsLength n → (cards : List Card) → Images cards
+      → (rank : ℕ) → rank < n → atRank rank (openings records cards) ≡ [] → getD (afterCards records cards) rank 0 ≡ getD records rank 0

@@ -6,8 +6,9 @@ use borrow.Author.Needs.{needs}
 use borrow.Author.Tests.{not-true, not-false}
 use lib.ListN.{getD, length-set, set}
 use Rattle.format.specs.Scan.{lanePlace, opened, recordsAfter}
-use Rattle.format.proofs.Histories.{lane-range}
-use Rattle.gate.proofs.Admits.{no-25, no-26, both-yes, records-fit, RecordsFit}
+use Rattle.format.proofs.Histories.{RecordsFit, lane-range, records-fit}
+use Rattle.format.proofs.Questions.{yes-of-none}
+use Rattle.gate.proofs.Admits.{no-25, no-26, both-yes}
 use Rattle.gate.proofs.admit.Statement.{statement}
 use Rattle.gate.proofs.admit.Tie as tie
 
@@ -21,16 +22,16 @@ returns-2 c = (no-26 _ _ _ _ (sym (c .before .before .before .time-right .ensure
 
 -- what 36, 29 and 21 to 24 left
 fit : (s : tie.Start) → RecordsFit (s .args .keys) (s .args .records .now) (s .args .lane) (s .args .time)
-fit s = records-fit _ _ _ _ _ _ (s .pre .2)
+fit s = records-fit _ _ _ _ _ _ (yes-of-none _ (s .pre .2))
 
 lane-place-requires : tie.Need-lane-place-requires
 lane-place-requires c κs =
     let s = c .before .before .before .before .before in
-    let range = lane-range _ (fit s .in-lane) in
+    let range = lane-range _ (fit s .lane-right) in
     (s .pre .0, range .0, range .1)
 
 slice-read-openings : tie.Need-slice-read-openings
-slice-read-openings c = let s = c .before .before .before .before .before .before .before in omega (arith, c .before .lane-place .ensures, lane-range _ (fit s .in-lane), fit s .size)
+slice-read-openings c = let s = c .before .before .before .before .before .before .before in omega (arith, c .before .lane-place .ensures, lane-range _ (fit s .lane-right), fit s .size)
 
 add-records : tie.Need-add-records
 add-records c = omega (arith, fit (c .before .before .before .before .before .before .before) .early)
@@ -47,7 +48,7 @@ add-records-2 c =
 slice-write-records-2 : tie.Need-slice-write-records-2
 slice-write-records-2 c =
     let s = c .before .before .before .before .before .before .before in
-    simp length-set (omega (arith, c .before .lane-place .ensures, lane-range _ (fit s .in-lane), fit s .size))
+    simp length-set (omega (arith, c .before .lane-place .ensures, lane-range _ (fit s .lane-right), fit s .size))
 
 returns-3 : tie.Need-returns-3
 unfolding recordsAfter opened

@@ -9,9 +9,11 @@ use Rattle.format.specs.Question.{firstNo, returns as answers}
 use Rattle.format.specs.Answer.{LookupAnswer, absent, listed, lookup}
 use Rattle.format.specs.Scan.{gateQuestions}
 use Rattle.query.specs.Outcomes.{lookupOutcome}
+use Rattle.format.proofs.Histories.{records-fit}
+use Rattle.format.proofs.Questions.{yes-of-none}
 use Rattle.header.proofs.Refusals.{none-refused}
 use Rattle.nodes.proofs.Numbers.{bytes-of}
-use Rattle.gate.proofs.Admits.{fits-yes, records-fit}
+use Rattle.gate.proofs.Admits.{fits-yes}
 use Rattle.gate.proofs.Scans.{header-long, image-refused, rank-small, scanned-absent, scanned-no, scanned-yes}
 use Rattle.gate.proofs.scan.Statement.{statement}
 use Rattle.gate.proofs.scan.Tie as tie
@@ -72,7 +74,7 @@ passed : (c : tie.Else1) → firstNo (gateQuestions true (c .before .before .bef
 passed c = fits-yes _ _ _ _ _ _ (none-refused _ _ (c .before .gate-refusal2 .ensures) (c .if1 .left))
 
 slice-read-last : tie.Need-slice-read-last
-slice-read-last c = omega (arith, below (c .before .before .before .before .before), records-fit _ _ _ _ _ _ (passed (c .before)) .size)
+slice-read-last c = omega (arith, below (c .before .before .before .before .before), records-fit _ _ _ _ _ _ (yes-of-none _ (passed (c .before))) .size)
 
 admit-requires : tie.Need-admit-requires
 admit-requires c κs = let k = c .before .before .before .before .before .before in (k .key-count2 .ensures .1, below k, passed (c .before .before))
