@@ -69,12 +69,12 @@ fn lane_place(keys: usize, lane: u32) -> usize
     keys + (lane as usize - 1)
 }
 
-// 23: the count at a place is below its end.
-fn below_end(records: &[u32], count: usize) -> bool
-    requires { ⌜ count < length (now records) ⌝ }
-    ensures { λ r. ⌜ r ≡ ltb (getD (now (records .entry)) count 0) Scan.largest32 ⌝ }
+// 23: the count at that place is below 4,294,967,295.
+fn below_end(records: &[u32], place: usize) -> bool
+    requires { ⌜ place < length (now records) ⌝ }
+    ensures { λ r. ⌜ r ≡ ltb (getD (now (records .entry)) place 0) Scan.largest32 ⌝ }
 {
-    records[count] < 4294967295
+    records[place] < 4294967295
 }
 
 // 36, 29 and 21 to 24, of an image with `keys` keys: the number of the first that gets a no, 0 where none does.
@@ -82,22 +82,22 @@ fn gate_refusal(records: &[u32], keys: usize, fits: bool, lane: u32, listed: boo
     requires { ⌜ keys < 65536 ⌝ }
     ensures { λ r. ⌜ refusalOf r ≡ firstNo (Scan.gateQuestions fits keys (now (records .entry)) lane listed time) ⌝ }
 {
-    let in_lane = is_lane(lane);
-    let long = records.len() == keys + 8;
+    let lane_right = is_lane(lane);
+    let length_right = records.len() == keys + 8;
     if !fits {
         return 36;
     }
-    if !in_lane {
+    if !lane_right {
         return 29;
     }
-    if !long {
+    if !length_right {
         return 21;
     }
     if time == 4294967295 {
         return 22;
     }
-    let count = lane_place(keys, lane);
-    if !below_end(records, count) {
+    let count_place = lane_place(keys, lane);
+    if !below_end(records, count_place) {
         return 23;
     }
     if listed { 0 } else { 24 }
@@ -116,17 +116,17 @@ fn admit(
     requires { ⌜ (keys < 65536) × (rank < keys) × (firstNo (Scan.gateQuestions true keys (now records) lane true time) ≡ none) ⌝ }
     ensures { λ r. ⌜ (outcomeOf r ≡ settle (Scan.lockoutQuestions last time lockout) rank) × (now (records .exit) ≡ Scan.recordsAfter (outcomeOf r) keys (now (records .entry)) lane time) ⌝ }
 {
-    let place = rank as usize;
+    let record_place = rank as usize;
     if !time_right(last, time) {
         return Scanned::Refused(25);
     }
     if !lockout_over(last, time, lockout) {
         return Scanned::Refused(26);
     }
-    let count = lane_place(keys, lane);
-    let openings = records[count];
-    records[place] = time + 1;
-    records[count] = openings + 1;
+    let count_place = lane_place(keys, lane);
+    let openings = records[count_place];
+    records[record_place] = time + 1;
+    records[count_place] = openings + 1;
     Scanned::Opened(rank)
 }
 
