@@ -8,7 +8,7 @@ use native.Mathlib.Omega.{arith}
 use borrow.Author.Tests.{eq-eqb, ne-eqb, le-leb, lt-leb}
 use lib.Dec.{eqb, leb}
 use Rattle.format.specs.Page.{numberAt, pairsAt}
-use Rattle.format.specs.Question.{firstNo, nodeQuestions}
+use Rattle.format.specs.Question.{firstNo, nodeQuestions, questionsFrom9}
 use Rattle.format.proofs.Questions.{asked-no, asked-yes}
 use Rattle.checker.specs.declared.page.Shape.{Shape}
 use Rattle.checker.specs.Paged.{questionsAfter, questionsAt, Asked}
@@ -31,11 +31,11 @@ module _ (img : List ℕ) (at t b next previous : ℕ) where
         past-8 = asked-yes 8 _ _ (ap₂ _&&_ (eq-eqb (numberAt img at) t (sym ex ∙ right-t)) (eq-eqb (numberAt img (at + 2)) b (sym ey ∙ right-b)))
 
         pub no-roots : next ≤ t → some 9 ≡ firstNo (questionsAt img at t b next previous)
-        unfolding questionsAfter nodeQuestions
+        unfolding questionsAfter questionsFrom9 nodeQuestions
         no-roots h = sym (past-8 ∙ asked-no 9 _ _ (ap (_&& leb (next - t) 60) (lt-leb 1 (next - t) (omega arith))))
 
         pub many-roots : 60 < next - t → some 9 ≡ firstNo (questionsAt img at t b next previous)
-        unfolding questionsAfter nodeQuestions
+        unfolding questionsAfter questionsFrom9 nodeQuestions
         many-roots h = sym (past-8 ∙ asked-no 9 _ _ (ap₂ _&&_ (le-leb 1 (next - t) (omega arith)) (lt-leb (next - t) 60 h)))
 
         pub by-shape : (s : Shape) → Asked (questionsAfter img at (next - t) previous) (pairsAt img at) (next - t) s

@@ -11,7 +11,7 @@ use lib.ListN.{length, take, drop, getD}
 use Rattle.format.specs.Seq.{All, every}
 use Rattle.format.specs.Trie.{bits, onBits}
 use Rattle.format.specs.Page.{Byte, firstSubtries, levelsIn, nodeCount, pairsAt}
-use Rattle.format.specs.Question.{Question, firstNo, isPositive, isZero, noRoom, nodeQuestions}
+use Rattle.format.specs.Question.{Question, firstNo, isPositive, isZero, noRoom, nodeQuestions, questionsFrom9}
 use Rattle.format.proofs.Lists.{all-drop, and-both, and-right, every-all}
 use Rattle.format.proofs.Bytes.{length-levelsIn, levels-shape}
 use Rattle.format.proofs.Subtries.{first-shape, length-first, node-bounds}
@@ -214,7 +214,7 @@ refused-page s e h = record {
 -- and one that is refused before 12 is asked
 pub refused-nodes : (img : List ℕ) (at r v : ℕ) {n : ℕ} (s : Shape) → firstNo (nodeQuestions r (pairsAt img at)) ≡ some (suc n) → (s .refusal ≡ suc n) × (s .nodes ≡ 0) × (s .links ≡ 0)
     → Asked (questionsAfter img at r v) (pairsAt img at) r s
-unfolding questionsAfter
+unfolding questionsAfter questionsFrom9
 refused-nodes img at r v s e h = refused-page s (sym (after-no (nodeQuestions r (pairsAt img at)) _ _ e)) h
 
 module _ {img : List ℕ} {at r : ℕ} {w : Words} {a b c all : ℕ} (e : Ended img at r w a b c all) where
@@ -239,7 +239,7 @@ module _ {img : List ℕ} {at r : ℕ} {w : Words} {a b c all : ℕ} (e : Ended 
 
   -- 12 alone is left to ask
   past-11 : (v : ℕ) → firstNo (questionsAfter img at r v) ≡ firstNo ((12, noRoom v (levelsIn 4 r (pairsAt img at))) ∷ [])
-  unfolding questionsAfter
+  unfolding questionsAfter questionsFrom9
   past-11 v = after-yes (nodeQuestions r (pairsAt img at)) _ (e .asked)
 
   shaped : (v : ℕ) → 240 < first + v → Asked (questionsAfter img at r v) (pairsAt img at) r (record { refusal = 0; nodes = r + c; links = all - c })

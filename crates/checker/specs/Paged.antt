@@ -2,7 +2,7 @@
 -- Assumes nothing.
 use mathlib.Core.Path.{_≡_}
 use mathlib.Core.Bool.{_&&_}
-use mathlib.Core.List.{List, [], _∷_, _++_, map}
+use mathlib.Core.List.{List, [], _∷_, map}
 use Prim.Native.Nat.{ℕ, _+_, _-_, _*_, _≤_}
 use lib.Dec.{eqb}
 use lib.ListN.{length, getD}
@@ -10,13 +10,13 @@ use Rattle.format.specs.Seq.{total}
 use Rattle.format.specs.Trie.{onBits}
 use Rattle.format.specs.Page.{levelsIn, nodeCount, numberAt, pairsAt}
 use Rattle.format.specs.Image.{bands, pageCount, pagesBefore}
-use Rattle.format.specs.Question.{Question, firstNo, noRoom, nodeQuestions}
+use Rattle.format.specs.Question.{Question, firstNo, noRoom, questionsFrom9}
 use Rattle.checker.specs.declared.page.Shape.{Shape}
 use Rattle.header.specs.Refusal.{refusalOf}
 
 -- 9 to 12 of the page at a place, of r roots, where the page before has so many nodes
 unfoldable pub questionsAfter : List ℕ → ℕ → ℕ → ℕ → List Question
-questionsAfter img at r previous = nodeQuestions r (pairsAt img at) ++ (12, noRoom previous (levelsIn 4 r (pairsAt img at))) ∷ []
+questionsAfter img at r previous = questionsFrom9 r (pairsAt img at) (noRoom previous (levelsIn 4 r (pairsAt img at)))
 
 -- 8 to 12, where the band's roots below t and its out-links below b stand before the page, and next is the first root after it
 unfoldable pub questionsAt : List ℕ → ℕ → ℕ → ℕ → ℕ → ℕ → List Question

@@ -14,7 +14,7 @@ use Rattle.format.specs.Seq.{All, every, numbersFrom, total, upTo}
 use Rattle.format.specs.Page.{firstSubtries, nodeCount, numberAt}
 use Rattle.format.specs.Header.{mark, versionFor}
 use Rattle.format.specs.Image.{bands, keyCount, liftOf, outLinkCount, pageB, pageCount, pageLevels, pageNodes, pagePairs, pageRoots, pageT, rootCount, versionOf}
-use Rattle.format.specs.Question.{Yes, bandQuestions, countsFit, firstNo, headRight, headerQuestions, imageQuestions, isLift, isPositive, isZero, liftRight, markRight, noRoom, nodeQuestions, outLinksDue, pageNeeded, pageQuestions, versionKnown, zerosRight}
+use Rattle.format.specs.Question.{Yes, bandQuestions, countsFit, firstNo, headRight, headerQuestions, imageQuestions, isLift, isPositive, isZero, liftRight, markRight, noRoom, nodeQuestions, outLinksDue, pageNeeded, pageQuestions, questionsFrom9, versionKnown, zerosRight}
 use Rattle.format.proofs.Lists.{and-left, and-right, and-both, or-first, or-second, or-rest, all-append, all-left, all-right, all-flatMap, flatMap-all, all-upTo, upTo-all, all-numbers, numbers-all, every-all, all-every}
 use Rattle.format.proofs.Questions.{yes-of-none, none-of-yes, of-range, range-of}
 use Rattle.format.proofs.Jobs.{lift-range, lift-yes}
@@ -220,7 +220,7 @@ of-full img b zero h = refl
 of-full img b (suc i) h = lt-ltb 240 _ h
 
 page-of : (img : List ℕ) (b i : ℕ) → All Yes (pageQuestions img b i) → PageOk img b i
-unfolding pageQuestions nodeQuestions pageNodes pageLevels
+unfolding pageQuestions questionsFrom9 nodeQuestions pageNodes pageLevels
 page-of img b i h =
     record {
       counters = counters-of img b i (h .0);
@@ -233,7 +233,7 @@ page-of img b i h =
     }
 
 of-page : (img : List ℕ) (b i : ℕ) → PageOk img b i → All Yes (pageQuestions img b i)
-unfolding pageQuestions nodeQuestions pageNodes pageLevels
+unfolding pageQuestions questionsFrom9 nodeQuestions pageNodes pageLevels
 of-page img b i h = (
   of-counters img b i (h .counters),
   (

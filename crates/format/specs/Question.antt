@@ -111,6 +111,10 @@ nodeQuestions r pairs =
     ∷ (11, every isZero (drop (nodeCount r (levelsIn 4 r pairs)) pairs))
     ∷ []
 
+-- 9 to 12, of the same; whether the page is needed is handed in
+unfoldable pub questionsFrom9 : ℕ → List ℕ → Bool → List Question
+questionsFrom9 r pairs needed = nodeQuestions r pairs ++ (12, needed) ∷ []
+
 -- the first subtrie of a page's levels has no room on a page that already has so many nodes
 unfoldable pub noRoom : ℕ → List (List ℕ) → Bool
 noRoom nodes levels = ltb 240 (nodeCount 1 (firstSubtries 1 levels) + nodes)
@@ -121,7 +125,7 @@ pageNeeded img b zero = true
 pageNeeded img b (suc i) = noRoom (pageNodes img b i) (pageLevels img b (suc i))
 
 unfoldable pub pageQuestions : List ℕ → ℕ → ℕ → List Question
-pageQuestions img b i = (8, headRight img b i) ∷ nodeQuestions (pageRoots img b i) (pagePairs img b i) ++ (12, pageNeeded img b i) ∷ []
+pageQuestions img b i = (8, headRight img b i) ∷ questionsFrom9 (pageRoots img b i) (pagePairs img b i) (pageNeeded img b i)
 
 -- ---- 13, of band b, and all
 
