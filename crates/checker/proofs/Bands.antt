@@ -22,6 +22,7 @@ use Rattle.format.proofs.Read.{pages-within}
 use Rattle.format.proofs.Questions.{after-no, after-yes, asked-no, asked-yes, next-turn, no-at-turn, yes-of-none}
 use Rattle.checker.specs.declared.page.Shape.{Shape}
 use Rattle.header.specs.Refusal.{refusalOf}
+use Rattle.header.proofs.Refusals.{none-refused}
 use Rattle.checker.specs.Paged.{questionsAfter, questionsAt, Asked, BandAt}
 
 -- ---- what the pages before page i of band b ask of its T and B, and the nodes of the page before it: 241 before a band's first page
@@ -80,8 +81,7 @@ module _ (img : List ℕ) (b : ℕ) where
   module _ (i : ℕ) (h : i < pageCount img b) (s : Shape) (asked : Asked (placed img b i) (pagePairs img b i) (nextT img b i - tDue img b i) s)
       (fine : s .refusal ≡ 0) where
     all-yes : firstNo (placed img b i) ≡ none
-    unfolding refusalOf
-    all-yes = sym (asked .first-no) ∙ ap refusalOf fine
+    all-yes = none-refused (s .refusal) (placed img b i) (asked .first-no) fine
 
     eight : eqb (pageT img b i) (tDue img b i) && eqb (pageB img b i) (bDue img b i) ≡ true
     unfolding questionsAt pageT pageB

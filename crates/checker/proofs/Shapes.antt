@@ -11,8 +11,8 @@ use lib.ListN.{length, take, drop, getD}
 use Rattle.format.specs.Seq.{All, every}
 use Rattle.format.specs.Trie.{bits, onBits}
 use Rattle.format.specs.Page.{Byte, firstSubtries, levelsIn, nodeCount, pairsAt}
-use Rattle.format.specs.Question.{Question, firstNo, isPositive, isZero, noRoom, nodeQuestions, questionsFrom9}
-use Rattle.format.proofs.Lists.{all-drop, and-both, and-right, every-all}
+use Rattle.format.specs.Question.{Question, firstNo, isPositive, isZero, noRoom, nodeQuestions, oneTo, questionsFrom9}
+use Rattle.format.proofs.Lists.{all-drop, and-right, every-all}
 use Rattle.format.proofs.Bytes.{length-levelsIn, levels-shape}
 use Rattle.format.proofs.Subtries.{first-shape, length-first, node-bounds}
 use Rattle.format.proofs.Counting.{marks, marks-add, marks-mono, thirdAt, fourthAt, nodes-counted, links-counted, subtrie-counted, every-flatten, flatten-levels}
@@ -25,7 +25,7 @@ use Rattle.nodes.proofs.Calls.{counted, all-counted, none-found-empty, rest-fou
 use Rattle.header.specs.Refusal.{refusalOf}
 use Rattle.checker.specs.declared.page.Shape.{Shape}
 use Rattle.checker.specs.Paged.{questionsAfter, Asked}
-use Rattle.format.proofs.Questions.{after-no, after-yes, asked-no, asked-yes, none-of-yes, yes-of-none}
+use Rattle.format.proofs.Questions.{after-no, after-yes, asked-no, asked-yes, none-of-yes, of-range, yes-of-none}
 
 -- ---- bounds
 
@@ -62,8 +62,8 @@ module _ {img : List ℕ} {at r : ℕ} {w : Words} (k : Known img at r w) where
   rank n x h e = e ∙ counted img (k .small) at (k .fits) w (k .gathered) n h
 
   -- question 9 gets a yes
-  nine : (leb 1 r && leb r 60) ≡ true
-  nine = and-both (le-leb 1 r (k .some-roots)) (le-leb r 60 (k .few-roots))
+  nine : oneTo 60 r ≡ true
+  nine = of-range 60 r (k .some-roots) (k .few-roots)
 
   -- question 10's second half, of as many pairs as there are nodes
   all-positive : every (every isPositive) (levelsIn 4 r (pairsAt img at)) ≡ every isPositive (take (nodeCount r (levelsIn 4 r (pairsAt img at))) (pairsAt img at))
