@@ -12,6 +12,7 @@ use Rattle.format.specs.Question.{Question, Yes, firstNo, oneTo}
 use native.Mathlib.Omega.{arith}
 use borrow.Author.Tests.{le-leb, leb-true}
 use lib.Dec.{leb}
+use lib.ListN.{drop}
 use Rattle.format.proofs.Lists.{and-both, and-left, and-right, numbers-split}
 
 -- no first no: every question got a yes
@@ -45,6 +46,18 @@ module _ (n : ℕ) (t : Bool) (qs : List Question) where
   pub asked-no : t ≡ false → firstNo ((n, t) ∷ qs) ≡ some n
   unfolding firstNo
   asked-no e = rw e
+
+-- the first k questions got a yes
+abbrev pub Past : ℕ → List Question → Type 0
+Past k qs = firstNo qs ≡ firstNo (drop k qs)
+
+-- question n is the first of those left, and the code found the answer t
+module _ (n : ℕ) (t q : Bool) (qs rs : List Question) (p : firstNo qs ≡ firstNo ((n, q) ∷ rs)) (e : t ≡ q) where
+  pub no-to : t ≡ false → some n ≡ firstNo qs
+  no-to h = sym (p ∙ asked-no n q rs (sym e ∙ h))
+
+  pub yes-to : t ≡ true → firstNo qs ≡ firstNo rs
+  yes-to h = p ∙ asked-yes n q rs (sym e ∙ h)
 
 -- all yes: the questions after them decide
 pub after-yes : (qs rs : List Question) → firstNo qs ≡ none → firstNo (qs ++ rs) ≡ firstNo rs

@@ -1,8 +1,7 @@
--- Questions 1 to 7 and 35: their answers as the code finds them, and asked in order. Assumes nothing.
+-- The answers to questions 3, 5, 7 and 35 as the code finds them. Assumes nothing.
 use mathlib.Core.Path.{_≡_, refl, sym, ap, ap₂, _∙_}
 use mathlib.Core.Bool.{Bool, true, false, _&&_, _||_}
-use mathlib.Core.List.{List, _∷_}
-use mathlib.Core.Option.{some}
+use mathlib.Core.List.{List}
 use Prim.Native.Nat.{ℕ, _+_, _-_, _≤_, _<_}
 use native.Mathlib.Omega.{arith}
 use borrow.Author.Tests.{eq-eqb, ne-eqb, le-leb, lt-leb}
@@ -11,8 +10,7 @@ use lib.ListN.{length, take, drop, getD}
 use Rattle.format.specs.Seq.{every, numbersFrom}
 use Rattle.format.specs.Page.{numberAt}
 use Rattle.format.specs.Image.{bands, versionOf, liftOf, keyCount, pageCount, rootCount}
-use Rattle.format.specs.Question.{Question, firstNo, isZero, isPositive, isLift, versionKnown, zerosRight, liftRight, countsFit, headerQuestions}
-use Rattle.format.proofs.Questions.{asked-yes, asked-no}
+use Rattle.format.specs.Question.{isZero, isPositive, isLift, versionKnown, zerosRight, liftRight, countsFit}
 use Rattle.format.proofs.Checked.{cond-yes, cond-no}
 use Rattle.header.specs.Refusal.{countsPositive}
 use Rattle.header.proofs.Turns.{every-yes, every-no, numbers-next, zero-counts}
@@ -115,17 +113,3 @@ module _ (img : List ℕ) (k : ℕ) (ek : k ≡ keyCount img) where
         fit-rest e t et =
             et
             ∙ sym (fit-some ∙ ap₂ (λ (s t : Bool). s && t && every (countsPositive img) (numbersFrom 2 7)) (eq-eqb (pageCount img 1) 1 (sym ep ∙ one)) (eq-eqb (rootCount img 1) 1 (sym er ∙ e)))
-
--- ---- one question after another
-
--- the first k questions got a yes
-abbrev pub Past : ℕ → List ℕ → Type 0
-Past k img = firstNo (headerQuestions img) ≡ firstNo (drop k (headerQuestions img))
-
--- question n is the first of those left, and the code found the answer t
-module _ (n : ℕ) (t q : Bool) (qs rs : List Question) (p : firstNo qs ≡ firstNo ((n, q) ∷ rs)) (e : t ≡ q) where
-  pub no-to : t ≡ false → some n ≡ firstNo qs
-  no-to h = sym (p ∙ asked-no n q rs (sym e ∙ h))
-
-  pub yes-to : t ≡ true → firstNo qs ≡ firstNo rs
-  yes-to h = p ∙ asked-yes n q rs (sym e ∙ h)

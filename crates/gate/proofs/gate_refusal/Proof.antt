@@ -5,37 +5,33 @@ use mathlib.Core.List.{List}
 use Prim.Native.Nat.{ℕ, _+_}
 use native.Mathlib.Omega.{arith}
 use lib.Dec.{ltb}
-use lib.ListN.{length, getD, drop}
+use lib.ListN.{length, getD}
 use borrow.Author.Needs.{needs}
 use borrow.Author.Tests.{eqb-true, lt-ltb, le-ltb, not-true, not-false}
 use Rattle.format.specs.Question.{Question, firstNo}
 use Rattle.format.specs.Scan.{gateQuestions, isLane, lanePlace, recordsLength}
 use Rattle.format.proofs.Histories.{lane-range}
+use Rattle.format.proofs.Questions.{Past, no-to, yes-to}
 use Rattle.header.specs.Refusal.{refusalOf}
-use Rattle.header.proofs.Asked.{no-to, yes-to}
 use Rattle.gate.proofs.gate_refusal.Statement.{statement}
 use Rattle.gate.proofs.gate_refusal.Tie as tie
 
 questions : tie.Start → List Question
 questions s = gateQuestions (s .args .fits) (s .args .keys) (s .args .records .now) (s .args .lane) (s .args .listed) (s .args .time)
 
--- the first k questions got a yes
-abbrev Past : ℕ → tie.Start → Type 0
-Past k s = firstNo (questions s) ≡ firstNo (drop k (questions s))
-
-past36 : (c : tie.Else1) → Past 1 (c .before .before .before)
+past36 : (c : tie.Else1) → Past 1 (questions (c .before .before .before))
 unfolding questions gateQuestions
 past36 c = yes-to 36 _ _ _ _ refl refl (not-false _ (c .if1 .left))
 
-past29 : (c : tie.Else2) → Past 2 (c .before .before .before .before)
+past29 : (c : tie.Else2) → Past 2 (questions (c .before .before .before .before))
 unfolding questions gateQuestions
 past29 c = yes-to 29 _ _ _ _ (past36 (c .before)) (c .before .before .is-lane .ensures) (not-false _ (c .if2 .left))
 
-past21 : (c : tie.Else3) → Past 3 (c .before .before .before .before .before)
+past21 : (c : tie.Else3) → Past 3 (questions (c .before .before .before .before .before))
 unfolding questions gateQuestions recordsLength
 past21 c = yes-to 21 _ _ _ _ (past29 (c .before)) refl (not-false _ (c .if3 .left))
 
-past22 : (c : tie.Else4) → Past 4 (c .before .before .before .before .before .before)
+past22 : (c : tie.Else4) → Past 4 (questions (c .before .before .before .before .before .before))
 unfolding questions gateQuestions
 past22 c = yes-to 22 _ _ _ _ (past21 (c .before)) refl (lt-ltb (c .before .before .before .before .before .before .args .time) 4294967295 (omega (arith, c .if4 .left)))
 
@@ -44,11 +40,11 @@ asked-23 : (b : tie.After-below-end)
     → b .below-end .result ≡ ltb (getD (b .before .before .before .before .before .before .before .before .args .records .now) (lanePlace (b .before .before .before .before .before .before .before .before .args .keys) (b .before .before .before .before .before .before .before .before .args .lane)) 0) 4294967295
 asked-23 b = b .below-end .ensures ∙ ap (λ (i : ℕ). ltb (getD (b .before .before .before .before .before .before .before .before .args .records .now) i 0) 4294967295) (b .before .lane-place .ensures)
 
-past23 : (c : tie.Else5) → Past 5 (c .before .before .before .before .before .before .before .before .before)
+past23 : (c : tie.Else5) → Past 5 (questions (c .before .before .before .before .before .before .before .before .before))
 unfolding questions gateQuestions
 past23 c = yes-to 23 _ _ _ _ (past22 (c .before .before .before)) (asked-23 (c .before)) (not-false _ (c .if5 .left))
 
-past24 : (c : tie.Then6) → Past 6 (c .before .before .before .before .before .before .before .before .before .before)
+past24 : (c : tie.Then6) → Past 6 (questions (c .before .before .before .before .before .before .before .before .before .before))
 unfolding questions gateQuestions
 past24 c = yes-to 24 _ _ _ _ (past23 (c .before)) refl (c .if6 .taken)
 
