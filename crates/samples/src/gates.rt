@@ -1,8 +1,8 @@
 // The gate's scans of a version 1 image, which passes at any lift's gate: the lockout rows of the paper, and questions 22 to 26 on both sides of their edges.
 use crate::images::two_keys;
+use crate::judge::is_answer;
 use crate::say::Tally;
 use crate::say::case;
-use gate::Scanned;
 use testing::starts_with;
 
 // The cases so far, and the records: of the ranks 0 and 1, then the counts of the lanes 1 to 8.
@@ -35,13 +35,6 @@ pub fn with_records(door: Door, records: [u32; 10]) -> Door {
     Door { tally, records }
 }
 
-fn is_answer(scanned: Scanned, refusal: u8, rank: u32) -> bool {
-    match scanned {
-        Scanned::Opened(r) => refusal == 0 && r == rank,
-        Scanned::Refused(n) => n == refusal,
-    }
-}
-
 // A case: a scan gets its answer, and the records are then `after`.
 pub fn scan_case(door: Door, names: &[u8], asked: Scan, after: [u32; 10]) -> Door {
     let mut records = door.records;
@@ -56,7 +49,7 @@ pub fn scan_case(door: Door, names: &[u8], asked: Scan, after: [u32; 10]) -> Doo
 }
 
 // Whether a scan gets its answer.
-pub fn is_scanned(records: &mut [u32], asked: Scan) -> bool {
+fn is_scanned(records: &mut [u32], asked: Scan) -> bool {
     let image = two_keys();
     let scanned = gate::scan(
         &image,
@@ -95,7 +88,7 @@ pub fn refused(slot: u16, time: u32, lockout: u32, refusal: u8) -> Scan {
     }
 }
 
-// The same scan in another lane.
+// The same scan in that lane.
 pub fn in_lane(lane: u32, asked: Scan) -> Scan {
     Scan {
         lane,
@@ -133,29 +126,29 @@ pub fn lockouts(tally: Tally) -> Tally {
     d.tally
 }
 
-// 22 to 26, at the last numbers.
+// 22 to 26, at the largest numbers.
 pub fn limits(tally: Tally) -> Tally {
     let names: &[u8] = b"\
         22: the last time\n\
         22: the time before it opens\n\
         26: the longest lockout\n\
         24: not listed\n\
-        23: the last openings count\n\
-        23: the count before it opens\n";
-    let last: u32 = 4294967295;
+        23: the largest count in lane 1\n\
+        23: one below the largest count opens\n";
+    let most: u32 = 4294967295;
     let mut d = closed(tally);
-    d = scan_case(d, names, refused(0, last, 0, 22), records_of(0, 0, 0));
-    d = scan_case(d, names, opens(0, last - 1, 0, 0), records_of(last, 0, 1));
+    d = scan_case(d, names, refused(0, most, 0, 22), records_of(0, 0, 0));
+    d = scan_case(d, names, opens(0, most - 1, 0, 0), records_of(most, 0, 1));
     d = scan_case(
         d,
         names,
-        refused(0, last - 1, last, 26),
-        records_of(last, 0, 1),
+        refused(0, most - 1, most, 26),
+        records_of(most, 0, 1),
     );
-    d = scan_case(d, names, refused(2, 9, 0, 24), records_of(last, 0, 1));
-    d = with_records(d, records_of(last, 0, last));
-    d = scan_case(d, names, refused(1, 9, 0, 23), records_of(last, 0, last));
-    d = with_records(d, records_of(last, 0, last - 1));
-    d = scan_case(d, names, opens(1, 9, 0, 1), records_of(last, 10, last));
+    d = scan_case(d, names, refused(2, 9, 0, 24), records_of(most, 0, 1));
+    d = with_records(d, records_of(most, 0, most));
+    d = scan_case(d, names, refused(1, 9, 0, 23), records_of(most, 0, most));
+    d = with_records(d, records_of(most, 0, most - 1));
+    d = scan_case(d, names, opens(1, 9, 0, 1), records_of(most, 10, most));
     d.tally
 }

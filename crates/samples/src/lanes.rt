@@ -1,13 +1,13 @@
 // Lanes: question 29, the length of the record buffer that ends in eight counts, question 23 of the named lane, and which elements an opening changes.
-use crate::gates::Scan;
 use crate::gates::closed;
 use crate::gates::in_lane;
-use crate::gates::is_scanned;
 use crate::gates::opens;
 use crate::gates::refused;
 use crate::gates::scan_case;
 use crate::gates::with_records;
-use crate::images::all_numbers;
+use crate::images::no_key;
+use crate::images::two_keys;
+use crate::judge::scans;
 use crate::say::Tally;
 use crate::say::case;
 
@@ -39,21 +39,24 @@ pub fn lanes(tally: Tally) -> Tally {
     d.tally
 }
 
-// Whether a scan gets its answer, and changes `records`, all 0, exactly if it opens.
-fn is_answered(records: &mut [u32], asked: Scan) -> bool {
-    if !is_scanned(records, asked) {
-        return false;
-    }
-    all_numbers(records, 0) == (0 < asked.refusal)
-}
-
-// A case: the same with a record buffer of `elements` zeros.
-fn length_case(tally: Tally, names: &[u8], elements: usize, asked: Scan) -> Tally {
+// A case: a scan in that lane, with a record buffer of `elements` zeros, is refused with `n`; or opens, for 0.
+fn length_case(
+    tally: Tally,
+    names: &[u8],
+    image: &[u8],
+    elements: usize,
+    lane: u32,
+    n: u8,
+) -> Tally {
     let mut records = [0u32; 12];
     if 12 < elements {
         return case(tally, names, false);
     }
-    case(tally, names, is_answered(&mut records[0..elements], asked))
+    case(
+        tally,
+        names,
+        scans(image, &mut records[0..elements], 9, lane, 7, n),
+    )
 }
 
 // 21, and 29 before it. The image has two keys.
@@ -68,38 +71,52 @@ pub fn lengths(tally: Tally) -> Tally {
         21: ten elements open\n\
         21: nine elements, in lane 8\n\
         29: nine elements, in lane 9\n";
-    let card = refused(0, 9, 0, 21);
-    let mut t = length_case(tally, names, 0, card);
-    t = length_case(t, names, 2, card);
-    t = length_case(t, names, 3, card);
-    t = length_case(t, names, 4, card);
-    t = length_case(t, names, 9, card);
-    t = length_case(t, names, 11, card);
-    t = length_case(t, names, 10, opens(0, 9, 0, 0));
-    t = length_case(t, names, 9, in_lane(8, card));
-    length_case(t, names, 9, in_lane(9, refused(0, 9, 0, 29)))
+    let keys = two_keys();
+    let image: &[u8] = &keys;
+    let mut t = length_case(tally, names, image, 0, 1, 21);
+    t = length_case(t, names, image, 2, 1, 21);
+    t = length_case(t, names, image, 3, 1, 21);
+    t = length_case(t, names, image, 4, 1, 21);
+    t = length_case(t, names, image, 9, 1, 21);
+    t = length_case(t, names, image, 11, 1, 21);
+    t = length_case(t, names, image, 10, 1, 0);
+    t = length_case(t, names, image, 9, 8, 21);
+    length_case(t, names, image, 9, 9, 29)
+}
+
+// The empty list, where lane 1's count is element 0.
+pub fn empty_list(tally: Tally) -> Tally {
+    let names: &[u8] = b"\
+        24: eight elements for the empty list\n\
+        29: eight elements for the empty list, in lane 9\n\
+        21: seven elements for the empty list\n";
+    let empty = no_key();
+    let image: &[u8] = &empty;
+    let mut t = length_case(tally, names, image, 8, 1, 24);
+    t = length_case(t, names, image, 8, 9, 29);
+    length_case(t, names, image, 7, 1, 21)
 }
 
 // 23 looks at the named lane's count alone.
-pub fn full_lane(tally: Tally) -> Tally {
+pub fn largest_count(tally: Tally) -> Tally {
     let names: &[u8] = b"\
-        23: the last count in lane 3\n\
+        23: the largest count in lane 3\n\
         23: lane 4 opens beside it, and lane 3's count stays\n\
-        23: the count before the last in lane 3 opens\n\
-        23: the last count again in lane 3\n\
-        23: lane 4 opens where every other count is the last\n";
-    let last: u32 = 4294967295;
-    let full = in_lane(3, refused(1, 9, 0, 23));
-    let mut d = with_records(closed(tally), [0, 0, 10, 20, last, 40, 50, 60, 70, 80]);
-    d = scan_case(d, names, full, [0, 0, 10, 20, last, 40, 50, 60, 70, 80]);
+        23: one below the largest count in lane 3 opens\n\
+        23: the largest count again in lane 3\n\
+        23: lane 4 opens where every other count is the largest\n";
+    let most: u32 = 4294967295;
+    let card = in_lane(3, refused(1, 9, 0, 23));
+    let mut d = with_records(closed(tally), [0, 0, 10, 20, most, 40, 50, 60, 70, 80]);
+    d = scan_case(d, names, card, [0, 0, 10, 20, most, 40, 50, 60, 70, 80]);
     let lane_4 = in_lane(4, opens(0, 9, 0, 0));
-    d = scan_case(d, names, lane_4, [10, 0, 10, 20, last, 41, 50, 60, 70, 80]);
-    d = with_records(d, [10, 0, 10, 20, last - 1, 41, 50, 60, 70, 80]);
+    d = scan_case(d, names, lane_4, [10, 0, 10, 20, most, 41, 50, 60, 70, 80]);
+    d = with_records(d, [10, 0, 10, 20, most - 1, 41, 50, 60, 70, 80]);
     let lane_3 = in_lane(3, opens(1, 9, 0, 1));
-    d = scan_case(d, names, lane_3, [10, 10, 10, 20, last, 41, 50, 60, 70, 80]);
-    d = scan_case(d, names, full, [10, 10, 10, 20, last, 41, 50, 60, 70, 80]);
-    let all_but_4 = [0, 0, last, last, last, 40, last, last, last, last];
-    let opened = [10, 0, last, last, last, 41, last, last, last, last];
+    d = scan_case(d, names, lane_3, [10, 10, 10, 20, most, 41, 50, 60, 70, 80]);
+    d = scan_case(d, names, card, [10, 10, 10, 20, most, 41, 50, 60, 70, 80]);
+    let all_but_4 = [0, 0, most, most, most, 40, most, most, most, most];
+    let opened = [10, 0, most, most, most, 41, most, most, most, most];
     d = scan_case(with_records(d, all_but_4), names, lane_4, opened);
     d.tally
 }

@@ -1,6 +1,5 @@
 // Lifts: question 35 of an image and of the writer, the image of a lift, and question 36.
 use crate::images::all_bytes;
-use crate::images::all_numbers;
 use crate::images::image_for;
 use crate::images::number;
 use crate::images::refusal_of;
@@ -10,7 +9,7 @@ use crate::images::with_byte;
 use crate::judge::accepts;
 use crate::judge::refuses;
 use crate::judge::refuses_part;
-use crate::judge::scan_refusal;
+use crate::judge::scans;
 use crate::questions::are_not_written;
 use crate::say::Tally;
 use crate::say::case;
@@ -118,17 +117,8 @@ pub fn images(tally: Tally) -> Tally {
     case(t, names, lift_of(&version_2(0, 0, 0)) == 65536)
 }
 
-// Whether a scan of holder 0 and slot 0 at a lift's gate is refused with `n` and leaves `records`, all 0, as lent; or opens, for 0.
-fn scans(image: &[u8], records: &mut [u32], time: u32, lane: u32, lift: u32, n: u8) -> bool {
-    let refusal = scan_refusal(gate::scan(image, records, 0, 0, time, 0, lane, lift));
-    if refusal != n {
-        return false;
-    }
-    all_numbers(records, 0) == (0 < n)
-}
-
-// A case: the same in lane 1 with a record buffer of ten elements.
-fn scan_case(tally: Tally, names: &[u8], image: &[u8], lift: u32, n: u8) -> Tally {
+// A case: a scan in lane 1 of a lift's gate, with a record buffer of ten elements, is refused with `n`; or opens, for 0.
+fn gate_case(tally: Tally, names: &[u8], image: &[u8], lift: u32, n: u8) -> Tally {
     let mut records = [0u32; 10];
     case(tally, names, scans(image, &mut records, 9, 1, lift, n))
 }
@@ -147,13 +137,13 @@ pub fn gates(tally: Tally) -> Tally {
     let image: &[u8] = &seven;
     let first = two_keys();
     let version_1: &[u8] = &first;
-    let mut t = scan_case(tally, names, image, 7, 0);
-    t = scan_case(t, names, image, 8, 36);
-    t = scan_case(t, names, image, 0, 36);
-    t = scan_case(t, names, image, 65543, 36);
-    t = scan_case(t, names, version_1, 7, 0);
-    t = scan_case(t, names, version_1, 0, 0);
-    scan_case(t, names, version_1, 4294967295, 0)
+    let mut t = gate_case(tally, names, image, 7, 0);
+    t = gate_case(t, names, image, 8, 36);
+    t = gate_case(t, names, image, 0, 36);
+    t = gate_case(t, names, image, 65543, 36);
+    t = gate_case(t, names, version_1, 7, 0);
+    t = gate_case(t, names, version_1, 0, 0);
+    gate_case(t, names, version_1, 4294967295, 0)
 }
 
 // A case: lift 7's image, with another low byte of the key count, at lift 8's gate.
@@ -179,14 +169,14 @@ fn other_gate(
     )
 }
 
-// 36 after 13, and before 29, 21 and 22.
+// 13 before 36 and 29, and 36 before 29, 21 and 22.
 pub fn gate_order(tally: Tally) -> Tally {
     let names: &[u8] = b"\
-        13: another key count at another lift's gate\n\
+        13: another key count, in lane 9 at another lift's gate\n\
         36: lane 9 at another lift's gate\n\
         36: two elements at another lift's gate\n\
         36: the last time at another lift's gate\n";
-    let mut t = other_gate(tally, names, 1, 10, 9, 1, 13);
+    let mut t = other_gate(tally, names, 1, 10, 9, 9, 13);
     t = other_gate(t, names, 2, 10, 9, 9, 36);
     t = other_gate(t, names, 2, 2, 9, 1, 36);
     other_gate(t, names, 2, 10, 4294967295, 1, 36)

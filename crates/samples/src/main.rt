@@ -32,7 +32,8 @@ fn main() {
     tally = gates::limits(tally);
     tally = lanes::lanes(tally);
     tally = lanes::lengths(tally);
-    tally = lanes::full_lane(tally);
+    tally = lanes::empty_list(tally);
+    tally = lanes::largest_count(tally);
     tally = lanes::each_lane(tally);
     tally = lifts::headers(tally);
     tally = lifts::writers(tally);
