@@ -44,7 +44,7 @@ typedef struct {
 /* The most bytes that an image can have (proved): a buffer of so many has room for any image. */
 #define LPT_MOST_BYTES 24640
 
-/* The number of lanes of a gate, numbered from 1: a record buffer ends in so many counts. */
+/* The most lanes of a gate, numbered from 1: a record buffer ends in so many counts, used or not. */
 #define LPT_LANES 8
 
 /*
@@ -82,7 +82,7 @@ typedef struct {
 
 /* Refusals of a scan, by lpt_scan. */
 #define LPT_NO_GATE 36        /* the image is for another lift than the gate's */
-#define LPT_NO_LANE 29        /* the lane is not 1 to 8 */
+#define LPT_NO_LANE 29        /* the lane is not 1 to LPT_LANES */
 #define LPT_NO_RECORDS 21     /* the record buffer's length is not key count + LPT_LANES */
 #define LPT_NO_TIME 22        /* the time is 4,294,967,295 */
 #define LPT_NO_OPENINGS 23    /* the lane's count is 4,294,967,295 */
@@ -139,7 +139,8 @@ int64_t lpt_find(const uint8_t *img, size_t len, uint32_t rank);
  * is 0 if the admission of rank r never opened, else the time of its last opening + 1; then each lane's count of
  * openings, lane 1's first, so that lane L's is element key count + L - 1. lift is the gate's own: any number, and
  * an image of version 1 passes at any gate. An opening returns the rank, writes time + 1 there and adds one to the
- * lane's count alone. Refuses with 1 to 13, 36, 29, 21 to 26, and then no element changes.
+ * lane's count alone. Refuses with 1 to 13, 36, 29, 21 to 26, and then no element changes. Scans that share rec
+ * must come one after the other, in different lanes too.
  */
 int64_t lpt_scan(const uint8_t *img, size_t len, uint32_t *rec, size_t rec_len, uint16_t holder, uint16_t slot,
                  uint32_t time, uint32_t lockout, uint32_t lane, uint32_t lift);

@@ -22,7 +22,7 @@ pub mod Writer
 pub mod Answer
 -- the gate's scan
 pub mod Scan
--- scans one after the other
+-- scans one after the other, and the statement of what the records then tell
 pub mod History
 -- what the listing program prints
 pub mod Text
