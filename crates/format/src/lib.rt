@@ -1,10 +1,13 @@
-// The types that the jobs share, the crossing between bands and back, the most bytes of an image, and which numbers are lift numbers. The definitions of the format are in specs/, the laws about them in proofs/.
+// The types that the jobs share, the crossing between bands and back, the most bytes of an image and the lanes of a gate, and which numbers are lift numbers. The definitions of the format are in specs/, the laws about them in proofs/.
 ghost use mathlib.Core.Path.{_≡_};
 ghost use Rattle.format.specs.Band.{crossed};
-ghost use Rattle.format.specs.Question.{isLift};
+ghost use Rattle.format.specs.Question.{isLift, oneTo};
 
 // The most bytes that an image can have (specs/Bounds): a buffer of so many has room for any.
 pub const MOST_BYTES: usize = 24640;
+
+// The lanes of a gate, numbered from 1: its records end in so many counts.
+pub const LANES: usize = 8;
 
 // A holder number and a slot number, laid out as C lays it out.
 #[repr(C)]
@@ -45,12 +48,19 @@ pub fn link_to(root: Root) -> OutLink
     OutLink(root.0)
 }
 
-// Whether it is a lift number, 1 to 999: 35 asks it of an image, and of what the writer is to write.
-pub fn is_lift(n: usize) -> bool
-    ensures { λ r. ⌜ r ≡ isLift n ⌝ }
+// Whether `n` is one of 1 to `most`.
+pub fn one_to(most: usize, n: usize) -> bool
+    ensures { λ r. ⌜ r ≡ oneTo most n ⌝ }
 {
     if n < 1 {
         return false;
     }
-    n <= 999
+    n <= most
+}
+
+// Whether it is a lift number, 1 to 999: 35 asks it of an image, and of what the writer is to write.
+pub fn is_lift(n: usize) -> bool
+    ensures { λ r. ⌜ r ≡ isLift n ⌝ }
+{
+    one_to(999, n)
 }

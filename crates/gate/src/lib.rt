@@ -1,4 +1,6 @@
 // The gate's scan: whether a card opens, and what is recorded.
+use format::LANES;
+use format::one_to;
 use query::Presence;
 ghost use mathlib.Core.Path.{_≡_};
 ghost use mathlib.Core.Bool.{true};
@@ -55,10 +57,7 @@ fn lockout_over(last: u32, time: u32, lockout: u32) -> bool
 fn is_lane(lane: u32) -> bool
     ensures { λ r. ⌜ r ≡ Scan.isLane lane ⌝ }
 {
-    if lane < 1 {
-        return false;
-    }
-    lane <= 8
+    one_to(LANES, lane as usize)
 }
 
 // The place of a lane's count in the records of an image with `keys` keys.
@@ -83,7 +82,7 @@ fn gate_refusal(records: &[u32], keys: usize, fits: bool, lane: u32, listed: boo
     ensures { λ r. ⌜ refusalOf r ≡ firstNo (Scan.gateQuestions fits keys (now (records .entry)) lane listed time) ⌝ }
 {
     let lane_right = is_lane(lane);
-    let length_right = records.len() == keys + 8;
+    let length_right = records.len() == keys + LANES;
     if !fits {
         return 36;
     }
