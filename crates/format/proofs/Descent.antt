@@ -6,7 +6,7 @@ use mathlib.Core.Logic.{_⊎_, inl, inr, ⊎-elim}
 use mathlib.Core.Path.{_≡_, refl, sym, ap, _∙_}
 use Prim.Native.Nat.{ℕ, zero, suc, _+_, _*_, _/_, _%_, _^_, _≤_, _<_}
 use native.Mathlib.Nat.{add-zero, div-one, div-div-eq-div-mul, pow-suc}
-use native.Mathlib.Decide.{decLt}
+use native.Mathlib.Decide.{decLt, ℕ-discrete}
 use native.Mathlib.Omega.{arith}
 use borrow.Author.Tests.{lt-ltb, le-ltb, eq-eqb, ne-eqb}
 use lib.Dec.{eqb}
@@ -155,6 +155,28 @@ rank-at [] i a h = absurd (omega arith)
 rank-at (x ∷ l) zero a h = rw (le-ltb x x (omega arith)) (rank-none x x l (omega arith) a)
 rank-at (x ∷ l) (suc i) a h = rw (lt-ltb x (getD l i 0) (above-at x l i a (omega arith))) (ap suc (rank-at l i (asc-tail x l a) (omega arith)))
 
+-- a member stands at its rank
+pub record AtRank (l : List ℕ) (y : ℕ) : Type 0 where
+  pub within : rankIn l y < length l
+  pub here : getD l (rankIn l y) 0 ≡ y
+
+record Index (l : List ℕ) (y : ℕ) : Type 0 where
+  n : ℕ
+  within : n < length l
+  here : getD l n 0 ≡ y
+
+index-of : (l : List ℕ) (y : ℕ) → List·Memᴰ y l → Index l y
+index-of [] y m = absurd (List·Memᴰ·not-nil m)
+index-of (e ∷ l) y m =
+    ⊎-elim (λ (d : y ≡ e). record { n = 0; within = omega arith; here = sym d })
+    (λ (t : List·Memᴰ y l). let r = index-of l y t in record { n = suc (r .n); within = omega (arith, r .within); here = r .here }) (List·Memᴰ·cases-cons m)
+
+pub at-rank : (l : List ℕ) (y : ℕ) → Asc l → List·Memᴰ y l → AtRank l y
+at-rank l y a m =
+    let i = index-of l y m in
+    let r : rankIn l y ≡ i .n = ap (rankIn l) (sym (i .here)) ∙ rank-at l (i .n) a (i .within) in
+    record { within = omega (arith, i .within); here = ap (λ (n : ℕ). getD l n 0) r ∙ i .here }
+
 -- membership as a test
 pub isIn-mem : (x : ℕ) (l : List ℕ) → List·Memᴰ x l → isIn x l ≡ true
 unfolding isIn
@@ -164,6 +186,15 @@ isIn-mem x (y ∷ l) m = ⊎-elim (λ (e : x ≡ y). rw (eq-eqb x y e)) (λ (t :
     or-true : (b : Bool) → (b || true) ≡ true
     or-true true = refl
     or-true false = refl
+
+pub mem-isIn : (x : ℕ) (l : List ℕ) → isIn x l ≡ true → List·Memᴰ x l
+unfolding isIn
+mem-isIn x [] h = absurd (let z : _≡_ {A = ℕ} 0 1 = cc in omega arith)
+mem-isIn x (y ∷ l) h =
+    elim (ℕ-discrete x y) [
+      | yes e ↦ List·Memᴰ·head e
+      | no e ↦ List·Memᴰ·tail (mem-isIn x l (sym (ap (_|| isIn x l) (ne-eqb x y e)) ∙ h))
+    ]
 
 pub isIn-not : (x : ℕ) (l : List ℕ) → (List·Memᴰ x l → ⊥) → isIn x l ≡ false
 unfolding isIn

@@ -11,11 +11,11 @@ use native.Mathlib.Nat.{add-zero}
 use lib.ListN.{length, getD}
 use Rattle.format.specs.Seq.{isIn, rankIn}
 use Rattle.format.proofs.Trie.{Asc}
-use Rattle.format.proofs.Descent.{asc-lt}
+use Rattle.format.proofs.Descent.{asc-lt, at-rank}
 use Rattle.format.proofs.Levels.{depth, prefixesAt, prefixes-asc}
 use Rattle.pages.specs.Page.{Ready}
 use Rattle.pages.proofs.Pages.{bytes, checked}
-use Rattle.subtries.proofs.Ranks.{at-rank, rank-agree, rank-next}
+use Rattle.subtries.proofs.Ranks.{rank-agree, rank-next}
 use Rattle.subtries.proofs.Sets.{bit-small}
 use Rattle.subtries.specs.Subtrie.{asBit, setOf}
 use Rattle.subtries.specs.Spot.{LevelStart}

@@ -1,4 +1,4 @@
--- Ranks in an ascending list: of a member, of the next number, of a number just below a member.
+-- Ranks in an ascending list: of the next number, of a number just below a member; and membership with the answer of its test.
 -- Assumes nothing.
 use mathlib.Core.Bool.{Bool, true, false}
 use mathlib.Core.List.{List, [], _∷_, List·Memᴰ, List·Memᴰ·head, List·Memᴰ·tail, List·Memᴰ·not-nil, List·Memᴰ·cases-cons}
@@ -74,25 +74,3 @@ rank-first l n z a h le f =
       | no b ↦ le-ltb k z (omega arith) ∙ sym (le-ltb k (getD l n 0) (omega arith))
     ])
     ∙ rank-at l n a h
-
--- a member stands at its rank
-pub record AtRank (l : List ℕ) (y : ℕ) : Type 0 where
-  pub within : rankIn l y < length l
-  pub here : getD l (rankIn l y) 0 ≡ y
-
-record Index (l : List ℕ) (y : ℕ) : Type 0 where
-  n : ℕ
-  within : n < length l
-  here : getD l n 0 ≡ y
-
-index-of : (l : List ℕ) (y : ℕ) → List·Memᴰ y l → Index l y
-index-of [] y m = absurd (List·Memᴰ·not-nil m)
-index-of (e ∷ l) y m =
-    ⊎-elim (λ (d : y ≡ e). record { n = 0; within = omega arith; here = sym d })
-    (λ (t : List·Memᴰ y l). let r = index-of l y t in record { n = suc (r .n); within = omega (arith, r .within); here = r .here }) (List·Memᴰ·cases-cons m)
-
-pub at-rank : (l : List ℕ) (y : ℕ) → Asc l → List·Memᴰ y l → AtRank l y
-at-rank l y a m =
-    let i = index-of l y m in
-    let r : rankIn l y ≡ i .n = ap (rankIn l) (sym (i .here)) ∙ rank-at l (i .n) a (i .within) in
-    record { within = omega (arith, i .within); here = ap (λ (n : ℕ). getD l n 0) r ∙ i .here }

@@ -16,7 +16,7 @@ use Rattle.format.specs.Answer.{inside}
 use Rattle.format.proofs.Accepted.{facts}
 use Rattle.format.proofs.Trie.{Asc}
 use Rattle.format.proofs.Cells.{Apart as CellApart, Covers, apart-outside, covers-inside}
-use Rattle.format.proofs.Descent.{isIn-mem, mem-at}
+use Rattle.format.proofs.Descent.{at-rank, isIn-mem, mem-at}
 use Rattle.format.proofs.Levels.{prefixesAt, prefixes-asc, prefixes-keys}
 use Rattle.format.proofs.Walk.{listed-prefix, roots-count}
 use Rattle.walk.specs.declared.block.Place.{Place}
@@ -27,7 +27,7 @@ use Rattle.subtries.specs.Subtrie.{asBit, levelSet, setBit, SubtrieRead}
 use Rattle.walk.specs.Walk.{Opening, Walking, Listed, anyKey, membersBetween}
 use Rattle.pages.proofs.Pages.{bytes, checked}
 use Rattle.pages.proofs.Counts.{links-count, links-few}
-use Rattle.subtries.proofs.Ranks.{Tested, member, stranger, tested, rank-next, at-rank}
+use Rattle.subtries.proofs.Ranks.{Tested, member, stranger, tested, rank-next}
 use Rattle.subtries.proofs.Sets.{set-bit}
 use Rattle.walk.proofs.Endings.{power-positive}
 use Rattle.walk.proofs.Between.{members-none, members-outside, members-one, members-agree, one-between}
