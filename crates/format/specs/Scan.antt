@@ -2,11 +2,11 @@
 -- Assumes nothing.
 use Prim.Native.Nat.{ℕ, _+_, _-_}
 use mathlib.Core.Bool.{Bool, _||_}
-use mathlib.Core.List.{List, [], _∷_, _++_}
+use mathlib.Core.List.{List, [], _∷_, _++_, map}
 use lib.Dec.{leb, ltb, eqb}
 use lib.ListN.{length, getD, set}
-use Rattle.format.specs.Seq.{isIn, rankIn}
-use Rattle.format.specs.Key.{keyOf}
+use Rattle.format.specs.Seq.{isIn, largest, rankIn, select}
+use Rattle.format.specs.Key.{holderOf, keyOf}
 use Rattle.format.specs.Image.{keyCount, keysOf, liftOf}
 use Rattle.format.specs.Question.{Question, Outcome, refused, returns, settle, isZero, oneTo, imageQuestions}
 
@@ -58,9 +58,24 @@ lockoutQuestions last time lockout = (25, timeRight last time) ∷ (26, lockoutO
 unfoldable pub liftFits : ℕ → List ℕ → Bool
 liftFits lift img = isZero (liftOf img) || eqb (liftOf img) lift
 
--- the record of a key: 0 for never, else the time of its last opening + 1
+-- the record of a key: 0 for never, else the time of that admission's last opening + 1
 unfoldable pub recordOf : List ℕ → List ℕ → ℕ → ℕ
 recordOf img records key = getD records (rankIn (keysOf img) key) 0
+
+-- the largest record among those of some keys
+unfoldable pub largestRecord : List ℕ → List ℕ → List ℕ → ℕ
+largestRecord img records keys = largest (map (recordOf img records) keys)
+
+-- whether a key is a holder's, and the keys of a holder's listed admissions
+unfoldable pub isHolders : ℕ → ℕ → Bool
+isHolders holder key = eqb (holderOf key) holder
+
+unfoldable pub keysOfHolder : List ℕ → ℕ → List ℕ
+keysOfHolder img holder = select (isHolders holder) (keysOf img)
+
+-- the holder's record, the largest among those of all of the holder's listed admissions: 0 for never, else the time of the holder's last opening + 1
+unfoldable pub holderRecord : List ℕ → List ℕ → ℕ → ℕ
+holderRecord img records holder = largestRecord img records (keysOfHolder img holder)
 
 -- 36, 29 and 21 to 26, at a gate of that lift and in that lane
 unfoldable pub scanQuestions : ℕ → List ℕ → List ℕ → ℕ → ℕ → ℕ → ℕ → List Question

@@ -1,6 +1,6 @@
 -- Lists: what the other files need beside lib.ListN.
 -- Assumes nothing.
-use Prim.Native.Nat.{ℕ, zero, suc, _+_}
+use Prim.Native.Nat.{ℕ, zero, suc, _+_, max}
 use mathlib.Core.Bool.{Bool, true, false, _&&_, _||_, cond}
 use lib.Dec.{eqb, ltb}
 use mathlib.Core.List.{List, [], _∷_}
@@ -19,6 +19,11 @@ upTo n = numbersFrom 0 n
 unfoldable pub total : List ℕ → ℕ
 total [] = 0
 total (x ∷ xs) = x + total xs
+
+-- the largest; 0 where there are none
+unfoldable pub largest : List ℕ → ℕ
+largest [] = 0
+largest (x ∷ xs) = max x (largest xs)
 
 -- a fact of every element, and a test of every element
 abbrev pub All : {A : Type 0} → (A → Type 0) → List A → Type 0
