@@ -99,15 +99,15 @@ module _ (lift : ℕ) (img records : List ℕ) (lane holder slot time lockout : 
       let first : firstNo (imageQuestions img) ≡ some n = no-of-refused (imageQuestions img) (lookupAnswer img own-key) n e in
       done (refused n) (sym (ap (λ o. outcome o own-rank) (after-no (imageQuestions img) (scanQuestions lift img records lane own-key time lockout) n first)))
 
-  -- an accepted image, and 36, 29 and 21 to 24 with the numbers that the code holds
-  module _ (answer : LookupAnswer) (e : lookup img holder slot ≡ returns answer) (n : ℕ) (f t : Bool) (k : n ≡ keyCount img) (l : f ≡ liftFits lift img) (is-in : isIn own-key (keysOf img) ≡ t) (refusal : ℕ)
-      (first : refusalOf refusal ≡ firstNo (gateQuestions f n records lane t time)) where
+  -- an accepted image, and what 36, 29 and 21 to 24 answered, with what lookup said for 24
+  module _ (answer : LookupAnswer) (e : lookup img holder slot ≡ returns answer) (t : Bool) (is-in : isIn own-key (keysOf img) ≡ t) (refusal : ℕ)
+      (first : refusalOf refusal ≡ firstNo (gateQuestions (liftFits lift img) (keyCount img) records lane t time)) where
     scan-is : scan lift img records lane holder slot time lockout ≡ settle (scanQuestions lift img records lane own-key time lockout) own-rank
     unfolding scan settle
     scan-is = ap (λ o. outcome o own-rank) (after-yes (imageQuestions img) _ (image-yes img holder slot answer e))
 
     asked : refusalOf refusal ≡ firstNo (gateQuestions (liftFits lift img) (keyCount img) records lane (isIn own-key (keysOf img)) time)
-    asked = first ∙ (λ i. firstNo (gateQuestions (l i) (k i) records lane (sym is-in i) time))
+    asked = first ∙ ap (λ (s : Bool). firstNo (gateQuestions (liftFits lift img) (keyCount img) records lane s time)) (sym is-in)
 
     -- one of them gets a no
     gate-refused : (refusal ≡ 0 → ⊥) → Done (refused refusal) records
@@ -121,23 +121,24 @@ module _ (lift : ℕ) (img records : List ℕ) (lane holder slot time lockout : 
     gate-passed z = scan-is ∙ ap (λ o. outcome o own-rank) (passed-first refusal _ asked (lockoutQuestions (recordOf img records own-key) time lockout) z)
 
   -- an admission that is not listed: 24 at the latest
-  pub scanned-absent : (n refusal : ℕ) (f : Bool) → lookup img holder slot ≡ returns absent → n ≡ keyCount img → f ≡ liftFits lift img → refusalOf refusal ≡ firstNo (gateQuestions f n records lane false time)
+  pub scanned-absent : (refusal : ℕ) → lookup img holder slot ≡ returns absent → refusalOf refusal ≡ firstNo (gateQuestions (liftFits lift img) (keyCount img) records lane false time)
       → Done (refused refusal) records
   unfolding gateQuestions
-  scanned-absent n refusal f e k l first =
-      gate-refused absent e n f false k l (off img holder slot e) refusal first (λ z. let absent-in : false ≡ true = yes-of-none _ (none-refused refusal _ first z) .1 .1 .1 .1 .1 .0 in let w : _≡_ {A = ℕ} 0 1 = cc in omega arith)
+  scanned-absent refusal e first =
+      gate-refused absent e false (off img holder slot e) refusal first (λ z. let absent-in : false ≡ true = yes-of-none _ (none-refused refusal _ first z) .1 .1 .1 .1 .1 .0 in let w : _≡_ {A = ℕ} 0 1 = cc in omega arith)
 
   -- a listed one
-  module _ (rank : ℕ) (pages : List ℕ) (e : lookup img holder slot ≡ returns (listed rank pages)) (n refusal : ℕ) (f : Bool) (k : n ≡ keyCount img) (l : f ≡ liftFits lift img)
-      (first : refusalOf refusal ≡ firstNo (gateQuestions f n records lane true time)) where
+  module _ (rank : ℕ) (pages : List ℕ) (e : lookup img holder slot ≡ returns (listed rank pages)) (refusal : ℕ)
+      (first : refusalOf refusal ≡ firstNo (gateQuestions (liftFits lift img) (keyCount img) records lane true time)) where
     -- 36, 29 and 21 to 24
     pub scanned-no : (refusal ≡ 0 → ⊥) → Done (refused refusal) records
-    scanned-no = gate-refused (listed rank pages) e n f true k l (on img holder slot rank pages e .0) refusal first
+    scanned-no = gate-refused (listed rank pages) e true (on img holder slot rank pages e .0) refusal first
 
-    -- 25 and 26, of the rank's record
-    pub scanned-yes : refusal ≡ 0 → (o : Outcome ℕ) (after : List ℕ) → (o ≡ settle (lockoutQuestions (getD records rank 0) time lockout) rank) × (after ≡ recordsAfter o n records lane time) → Done o after
+    -- 25 and 26, of the rank's record; n is the key count that the code holds
+    pub scanned-yes : refusal ≡ 0 → (n : ℕ) → n ≡ keyCount img → (o : Outcome ℕ) (after : List ℕ)
+        → (o ≡ settle (lockoutQuestions (getD records rank 0) time lockout) rank) × (after ≡ recordsAfter o n records lane time) → Done o after
     unfolding recordOf
-    scanned-yes z o after d =
+    scanned-yes z n k o after d =
         let own : rank ≡ own-rank = sym (on img holder slot rank pages e .1) in
-        let all = done o (d .0 ∙ (λ i. settle (lockoutQuestions (getD records (own i) 0) time lockout) (own i)) ∙ sym (gate-passed (listed rank pages) e n f true k l (on img holder slot rank pages e .0) refusal first z)) in
+        let all = done o (d .0 ∙ (λ i. settle (lockoutQuestions (getD records (own i) 0) time lockout) (own i)) ∙ sym (gate-passed (listed rank pages) e true (on img holder slot rank pages e .0) refusal first z)) in
         (all .0, d .1 ∙ ap (λ (m : ℕ). recordsAfter o m records lane time) k ∙ all .1)

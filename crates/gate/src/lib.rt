@@ -3,13 +3,13 @@ use format::LANES;
 use format::one_to;
 use query::Presence;
 ghost use mathlib.Core.Path.{_≡_};
-ghost use mathlib.Core.Bool.{true};
-ghost use mathlib.Core.Option.{none};
 ghost use Prim.Native.Nat.{_≤_, _<_};
 ghost use lib.Dec.{ltb};
 ghost use lib.ListN.{length, getD};
 ghost use Rattle.format.specs.Question.{firstNo, settle};
+ghost use Rattle.format.specs.Image.{keyCount};
 ghost use Rattle.format.specs.Scan;
+ghost use Rattle.format.proofs.Histories.{RecordsFit};
 ghost use Rattle.header.specs.Refusal.{refusalOf};
 ghost use Rattle.gate.specs.Outcomes.{outcomeOf};
 
@@ -76,11 +76,13 @@ fn below_end(records: &[u32], place: usize) -> bool
     records[place] < 4294967295
 }
 
-// 36, 29 and 21 to 24, of an image with `keys` keys: the number of the first that gets a no, 0 where none does.
-fn gate_refusal(records: &[u32], keys: usize, fits: bool, lane: u32, listed: bool, time: u32) -> u8
-    requires { ⌜ keys < 65536 ⌝ }
-    ensures { λ r. ⌜ refusalOf r ≡ firstNo (Scan.gateQuestions fits keys (now (records .entry)) lane listed time) ⌝ }
+// 36, 29 and 21 to 24, of an accepted image: the number of the first that gets a no, 0 where none does.
+fn gate_refusal(image: &[u8], records: &[u32], lane: u32, lift: u32, listed: bool, time: u32) -> u8
+    requires { ⌜ 64 ≤ length (now image) ⌝ }
+    ensures { λ r. ⌜ refusalOf r ≡ firstNo (Scan.gateQuestions (Scan.liftFits lift (now (image .entry))) (keyCount (now (image .entry))) (now (records .entry)) lane listed time) ⌝ }
 {
+    let keys = header::key_count(image);
+    let fits = lift_fits(image, lift);
     let lane_right = is_lane(lane);
     let length_right = records.len() == keys + LANES;
     if !fits {
@@ -102,7 +104,7 @@ fn gate_refusal(records: &[u32], keys: usize, fits: bool, lane: u32, listed: boo
     if listed { 0 } else { 24 }
 }
 
-// 25 and 26, of the record `last`, where 36, 29 and 21 to 24 got a yes; and the opening of the admission at `rank`.
+// 25 and 26, of the record `last`, where the lane, the records and the time fit; and the opening of the admission at `rank`.
 fn admit(
     records: &mut [u32],
     keys: usize,
@@ -112,7 +114,7 @@ fn admit(
     time: u32,
     lockout: u32,
 ) -> Scanned
-    requires { ⌜ (keys < 65536) × (rank < keys) × (firstNo (Scan.gateQuestions true keys (now records) lane true time) ≡ none) ⌝ }
+    requires { ⌜ (keys < 65536) × (rank < keys) × (RecordsFit keys (now records) lane time) ⌝ }
     ensures { λ r. ⌜ (outcomeOf r ≡ settle (Scan.lockoutQuestions last time lockout) rank) × (now (records .exit) ≡ Scan.recordsAfter (outcomeOf r) keys (now (records .entry)) lane time) ⌝ }
 {
     let record_place = rank as usize;
@@ -150,17 +152,14 @@ pub fn scan(
             return Scanned::Refused(n);
         }
         Presence::Absent => {
-            let keys = header::key_count(image);
-            let fits = lift_fits(image, lift);
-            return Scanned::Refused(gate_refusal(records, keys, fits, lane, false, time));
+            return Scanned::Refused(gate_refusal(image, records, lane, lift, false, time));
         }
         Presence::Listed(rank) => {
-            let keys = header::key_count(image);
-            let fits = lift_fits(image, lift);
-            let refusal = gate_refusal(records, keys, fits, lane, true, time);
+            let refusal = gate_refusal(image, records, lane, lift, true, time);
             if refusal != 0 {
                 return Scanned::Refused(refusal);
             }
+            let keys = header::key_count(image);
             let place = rank as usize;
             let last = records[place];
             return admit(records, keys, lane, rank, last, time, lockout);

@@ -6,8 +6,7 @@ use borrow.Author.Needs.{needs}
 use borrow.Author.Tests.{not-true, not-false}
 use lib.ListN.{getD, length-set, set}
 use Rattle.format.specs.Scan.{lanePlace, opened, recordsAfter}
-use Rattle.format.proofs.Histories.{RecordsFit, lane-range, records-fit}
-use Rattle.format.proofs.Questions.{yes-of-none}
+use Rattle.format.proofs.Histories.{lane-range}
 use Rattle.gate.proofs.Admits.{no-25, no-26, both-yes}
 use Rattle.gate.proofs.admit.Statement.{statement}
 use Rattle.gate.proofs.admit.Tie as tie
@@ -20,35 +19,31 @@ returns-2 : tie.Need-returns-2
 unfolding recordsAfter
 returns-2 c = (no-26 _ _ _ _ (sym (c .before .before .before .time-right .ensures) ∙ not-false _ (c .before .before .if1 .left)) (sym (c .before .lockout-over .ensures) ∙ not-true _ (c .if2 .taken)), refl)
 
--- what 36, 29 and 21 to 24 left
-fit : (s : tie.Start) → RecordsFit (s .args .keys) (s .args .records .now) (s .args .lane) (s .args .time)
-fit s = records-fit _ _ _ _ _ _ (yes-of-none _ (s .pre .2))
-
 lane-place-requires : tie.Need-lane-place-requires
 lane-place-requires c κs =
     let s = c .before .before .before .before .before in
-    let range = lane-range _ (fit s .lane-right) in
+    let range = lane-range _ (s .pre .2 .lane-right) in
     (s .pre .0, range .0, range .1)
 
 slice-read-openings : tie.Need-slice-read-openings
-slice-read-openings c = let s = c .before .before .before .before .before .before .before in omega (arith, c .before .lane-place .ensures, lane-range _ (fit s .lane-right), fit s .size)
+slice-read-openings c = let s = c .before .before .before .before .before .before .before in omega (arith, c .before .lane-place .ensures, lane-range _ (s .pre .2 .lane-right), s .pre .2 .size)
 
 add-records : tie.Need-add-records
-add-records c = omega (arith, fit (c .before .before .before .before .before .before .before) .early)
+add-records c = omega (arith, c .before .before .before .before .before .before .before .pre .2 .early)
 
 slice-write-records : tie.Need-slice-write-records
-slice-write-records c = let s = c .before .before .before .before .before .before .before in omega (arith, s .pre .1, fit s .size)
+slice-write-records c = let s = c .before .before .before .before .before .before .before in omega (arith, s .pre .1, s .pre .2 .size)
 
 add-records-2 : tie.Need-add-records-2
 add-records-2 c =
     let s = c .before .before .before .before .before .before .before in
     let same : getD (s .args .records .now) (c .before .lane-place .result) 0 ≡ getD (s .args .records .now) (lanePlace (s .args .keys) (s .args .lane)) 0 = ap (λ (i : ℕ). getD (s .args .records .now) i 0) (c .before .lane-place .ensures) in
-    omega (arith, fit s .few, same)
+    omega (arith, s .pre .2 .few, same)
 
 slice-write-records-2 : tie.Need-slice-write-records-2
 slice-write-records-2 c =
     let s = c .before .before .before .before .before .before .before in
-    simp length-set (omega (arith, c .before .lane-place .ensures, lane-range _ (fit s .lane-right), fit s .size))
+    simp length-set (omega (arith, c .before .lane-place .ensures, lane-range _ (s .pre .2 .lane-right), s .pre .2 .size))
 
 returns-3 : tie.Need-returns-3
 unfolding recordsAfter opened

@@ -1,19 +1,15 @@
 -- `gate::scan` meets its contract. Assumes nothing.
 use mathlib.Core.Path.{_≡_, sym, ap, _∙_}
-use mathlib.Core.Bool.{true}
-use mathlib.Core.Option.{none}
 use Prim.Native.Nat.{_<_}
 use native.Mathlib.Omega.{arith}
 use borrow.Author.Needs.{needs}
-use Rattle.format.specs.Question.{firstNo, returns as answers}
+use Rattle.format.specs.Question.{returns as answers}
 use Rattle.format.specs.Answer.{LookupAnswer, absent, listed, lookup}
-use Rattle.format.specs.Scan.{gateQuestions}
 use Rattle.query.specs.Outcomes.{lookupOutcome}
-use Rattle.format.proofs.Histories.{records-fit}
+use Rattle.format.proofs.Histories.{RecordsFit, records-fit}
 use Rattle.format.proofs.Questions.{yes-of-none}
 use Rattle.header.proofs.Refusals.{none-refused}
 use Rattle.nodes.proofs.Numbers.{bytes-of}
-use Rattle.gate.proofs.Admits.{fits-yes}
 use Rattle.gate.proofs.Scans.{header-long, image-refused, rank-small, scanned-absent, scanned-no, scanned-yes}
 use Rattle.gate.proofs.scan.Statement.{statement}
 use Rattle.gate.proofs.scan.Tie as tie
@@ -34,16 +30,11 @@ is-absent : (c : tie.After-enum-told) → Answered (c .before .before) absent
 unfolding lookupOutcome
 is-absent c = let l = c .before .before in sym (l .lookup .ensures .0) ∙ ap (λ q. lookupOutcome q (l .lookup .result .pages)) (c .enum-told .given .1)
 
-key-count-requires : tie.Need-key-count-requires
-key-count-requires c κs = header-long _ _ _ _ (is-absent c)
-
-lift-fits-requires : tie.Need-lift-fits-requires
-lift-fits-requires c κs = header-long _ _ _ _ (is-absent (c .before))
+gate-refusal-requires : tie.Need-gate-refusal-requires
+gate-refusal-requires c κs = header-long _ _ _ _ (is-absent (c .before))
 
 returns-2 : tie.Need-returns-2
-returns-2 c =
-    let k = c .before .before .before in
-    scanned-absent _ _ _ _ _ _ _ _ _ _ _ (is-absent (k .before)) (k .key-count .ensures .0) (c .before .before .lift-fits .ensures) (c .gate-refusal .ensures)
+returns-2 c = scanned-absent _ _ _ _ _ _ _ _ _ (is-absent (c .before .before)) (c .gate-refusal .ensures)
 
 -- ---- a listed one
 
@@ -51,42 +42,41 @@ is-listed : (c : tie.After-known-told2) → Answered (c .before .before .before)
 unfolding lookupOutcome
 is-listed c = let l = c .before .before .before in sym (l .lookup .ensures .0) ∙ ap (λ q. lookupOutcome q (l .lookup .result .pages)) (c .before .answer2 .given .1)
 
-key-count-requires-2 : tie.Need-key-count-requires-2
-key-count-requires-2 c κs = header-long _ _ _ _ (is-listed c)
-
-lift-fits-requires-2 : tie.Need-lift-fits-requires-2
-lift-fits-requires-2 c κs = header-long _ _ _ _ (is-listed (c .before))
+gate-refusal-requires-2 : tie.Need-gate-refusal-requires-2
+gate-refusal-requires-2 c κs = header-long _ _ _ _ (is-listed (c .before))
 
 returns-3 : tie.Need-returns-3
-returns-3 c =
-    let k = c .before .before .before .before in
-    scanned-no _ _ _ _ _ _ _ _ _ _ (is-listed (k .before)) _ _ _ (k .key-count2 .ensures .0) (c .before .before .before .lift-fits2 .ensures) (c .before .gate-refusal2 .ensures) (c .if1 .taken)
+returns-3 c = scanned-no _ _ _ _ _ _ _ _ _ _ (is-listed (c .before .before .before)) _ (c .before .gate-refusal2 .ensures) (c .if1 .taken)
+
+key-count-requires : tie.Need-key-count-requires
+key-count-requires c κs = header-long _ _ _ _ (is-listed (c .before .before .before))
 
 -- its rank is below the key count
-below : (k : tie.After-key-count2) → k .before .before .answer2 .given .0 .0 < k .key-count2 .result
+below : (k : tie.After-key-count) → k .before .before .before .before .before .answer2 .given .0 .0 < k .key-count .result
 below k =
-    let l = k .before .before .before .before in
+    let t = k .before .before .before .before in
+    let l = t .before .before .before in
     let s = l .before .before .before in
-    omega (arith, k .key-count2 .ensures .0, rank-small _ _ _ _ _ (is-listed (k .before)) (bytes-of (s .args .image .now) (λ i. l .before .before .shared-slice-known .given i .fits)))
+    omega (arith, k .key-count .ensures .0, rank-small _ _ _ _ _ (is-listed t) (bytes-of (s .args .image .now) (λ i. l .before .before .shared-slice-known .given i .fits)))
 
 -- 36, 29 and 21 to 24 got a yes
-passed : (c : tie.Else1) → firstNo (gateQuestions true (c .before .before .before .before .key-count2 .result) (c .before .before .before .before .before .before .before .before .before .before .before .args .records .now) (c .before .before .before .before .before .before .before .before .before .before .before .args .lane) true (c .before .before .before .before .before .before .before .before .before .before .before .args .time)) ≡ none
-passed c = fits-yes _ _ _ _ _ _ (none-refused _ _ (c .before .gate-refusal2 .ensures) (c .if1 .left))
+fit : (k : tie.After-key-count) → let s = k .before .before .before .before .before .before .before .before .before .before in
+    RecordsFit (k .key-count .result) (s .args .records .now) (s .args .lane) (s .args .time)
+fit k = rw (k .key-count .ensures .0) (records-fit _ _ _ _ _ _ (yes-of-none _ (none-refused _ _ (k .before .before .gate-refusal2 .ensures) (k .before .if1 .left))))
 
 slice-read-last : tie.Need-slice-read-last
-slice-read-last c = omega (arith, below (c .before .before .before .before .before), records-fit _ _ _ _ _ _ (yes-of-none _ (passed (c .before))) .size)
+slice-read-last c = omega (arith, below (c .before), fit (c .before) .size)
 
 admit-requires : tie.Need-admit-requires
-admit-requires c κs = let k = c .before .before .before .before .before .before in (k .key-count2 .ensures .1, below k, passed (c .before .before))
+admit-requires c κs = let k = c .before .before in (k .key-count .ensures .1, below k, fit k)
 
 returns-4 : tie.Need-returns-4
 returns-4 c =
-    let g = c .before .before .before .before .before .before in
-    let k = g .before .before .before in
-    scanned-yes _ _ _ _ _ _ _ _ _ _ (is-listed (k .before)) _ _ _ (k .key-count2 .ensures .0) (g .before .before .lift-fits2 .ensures) (g .gate-refusal2 .ensures) (c .before .before .before .before .before .if1 .left) _ _ (c .before .before .admit .ensures)
+    let k = c .before .before .before .before .before in
+    scanned-yes _ _ _ _ _ _ _ _ _ _ (is-listed (k .before .before .before .before)) _ (k .before .before .gate-refusal2 .ensures) (k .before .if1 .left) _ (k .key-count .ensures .0) _ _ (c .before .before .admit .ensures)
 
 pub scan-spec : {M : Type 1} → statement M
 scan-spec =
     tie.close
-    (tie.spec (λ c κs. search needs) (λ c. search needs) returns (λ c. search needs) key-count-requires lift-fits-requires (λ c κs. search needs) (λ c. search needs) returns-2 (λ c. search needs)
-    key-count-requires-2 lift-fits-requires-2 (λ c κs. search needs) (λ c. search needs) returns-3 (λ c. search needs) (λ c. search needs) slice-read-last admit-requires (λ c. search needs) returns-4)
+    (tie.spec (λ c κs. search needs) (λ c. search needs) returns (λ c. search needs) gate-refusal-requires (λ c. search needs) returns-2 (λ c. search needs)
+    gate-refusal-requires-2 (λ c. search needs) returns-3 key-count-requires (λ c. search needs) (λ c. search needs) slice-read-last admit-requires (λ c. search needs) returns-4)
