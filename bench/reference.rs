@@ -518,7 +518,7 @@ impl<'a> Walker<'a> {
     }
 
     /// The root's out-links as a 16-bit set (nibble 0 highest), and the first one's number.
-    #[inline]
+    #[inline(always)]
     fn open(&mut self, band: usize, root: u32) -> (u32, u32) {
         if self.rd[band].root != root || root >= self.rd[band].end {
             self.seek(band, root);
@@ -653,6 +653,22 @@ impl<'a> Walker<'a> {
         }
         sum
     }
+
+    /// The largest record among the holder's keys under a root; only branches of the holder are opened.
+    fn latest(&mut self, band: usize, root: u32, holder: u16, records: &[u32]) -> u32 {
+        // out-links whose first and third bits are the holder's two bits of the band
+        const SAME: [u32; 4] = [0xcc00, 0x3300, 0x00cc, 0x0033];
+        let (set, link) = self.open(band, root);
+        let mut own = set & SAME[(holder >> (14 - 2 * band) & 3) as usize];
+        let mut most = 0;
+        while own != 0 {
+            let nib = own.leading_zeros() - 16;
+            own ^= 0x8000 >> nib;
+            let x = link + (set >> (16 - nib)).count_ones();
+            most = most.max(if band == 7 { records[x as usize] } else { self.latest(band + 1, x, holder, records) });
+        }
+        most
+    }
 }
 
 enum Place {
@@ -752,16 +768,16 @@ pub fn scan(img: &[u8], rec: &mut [u32], holder: u16, slot: u16, time: u32, lock
         return Err(No(23));
     }
     let Some(f) = walk(img, &h, weave(holder, slot)) else { return Err(No(24)) };
-    let r = &mut records[f.rank as usize];
-    if *r != 0 {
-        if time < *r - 1 {
+    let last = Walker::new(img, &h).latest(0, 0, holder, records);
+    if last != 0 {
+        if time < last - 1 {
             return Err(No(25));
         }
-        if time - (*r - 1) < lockout {
+        if time - (last - 1) < lockout {
             return Err(No(26));
         }
     }
-    *r = time + 1;
+    records[f.rank as usize] = time + 1;
     *count += 1;
     Ok(f.rank)
 }
