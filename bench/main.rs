@@ -1,11 +1,15 @@
 //! Times every job of the verified library (target/staticlib/libcapi.a) beside a plain hand-written implementation of the same
-//! jobs (reference.rs) and beside a sorted array, on three lists of 4,096 admissions. Before anything is timed, the answers and
-//! buffers of both implementations are compared on many sound and damaged images.
+//! jobs (reference.rs) and beside a sorted array, on four lists of 4,096 admissions. Before anything is timed, the answers and
+//! buffers of both implementations are compared on many sound and damaged images (compare.rs).
 use std::collections::BTreeSet;
 use std::fmt::Write as _;
 use std::hint::black_box as bb;
 
 use reference::{unweave, weave, Admission, Rect, LANES, MOST_BYTES};
+
+mod compare;
+
+type Scan = fn(&[u8], &mut [u32], u16, u16, u32, u32, u32, u32) -> i64;
 
 /// One implementation of the jobs; an answer -n is question n's no.
 struct Jobs {
@@ -17,7 +21,7 @@ struct Jobs {
     count: fn(&[u8], Rect) -> i64,
     list: fn(&[u8], Rect, &mut [u32]) -> i64,
     find: fn(&[u8], u32) -> i64,
-    scan: fn(&[u8], &mut [u32], u16, u16, u32, u32, u32, u32) -> i64,
+    scan: Scan,
     // compared, not timed
     write_keys: fn(&[u32], u32, &mut [u8]) -> i64,
     key: fn(u16, u16) -> i64,
@@ -143,6 +147,13 @@ fn data(name: &'static str, r: &mut Rng) -> Data {
                 }
             }
         }
+        // passes of all 300 half-days of a season, the last one shorter; card numbers over the whole range
+        "long passes" => {
+            while set.len() < N {
+                let h = r.next() as u16;
+                set.extend((0..300.min(N - set.len())).map(|s| weave(h, s as u16)));
+            }
+        }
         _ => set.extend(0..N as u32),
     }
     let keys: Vec<u32> = set.iter().copied().collect();
@@ -157,6 +168,7 @@ fn data(name: &'static str, r: &mut Rng) -> Data {
         let k = match name {
             "random" => r.next() as u32,
             "clustered" => weave(pick(r).holder, r.below(300) as u16),
+            "long passes" => weave(pick(r).holder, r.below(600) as u16),
             _ => weave(64 + r.below(64) as u16, r.below(64) as u16),
         };
         if !set.contains(&k) {
@@ -164,7 +176,7 @@ fn data(name: &'static str, r: &mut Rng) -> Data {
         }
     }
     let mut shapes: Vec<(&'static str, Vec<Rect>)> = vec![("one slot", vec![]), ("one holder", vec![]), ("block of 10 %", vec![])];
-    let (dh, ds) = match name { "random" => (3277, 3277), "clustered" => (3277, 15), _ => (10, 10) };
+    let (dh, ds) = match name { "random" => (3277, 3277), "clustered" | "long passes" => (3277, 15), _ => (10, 10) };
     for _ in 0..64 {
         let a = pick(r);
         shapes[0].1.push(Rect { h0: 0, h1: 65535, s0: a.slot, s1: a.slot });
@@ -189,113 +201,6 @@ fn in_rect(keys: &[u32], q: Rect, mut each: impl FnMut(u32)) {
             each(k);
         }
     }
-}
-
-// ---- answers first
-
-/// The lanes of a gate, and six numbers that are none; the last two would be lanes if they were cut to 8 or 16 bits.
-fn lanes() -> impl Iterator<Item = u32> {
-    (1..=LANES as u32).chain([0, 9, 255, 1 << 31, 256 + 1, 65536 + 8])
-}
-
-/// One scan in that lane, with time, lockout and records by chance; now and then the length is wrong, or the lane's or another lane's count is the largest.
-fn compare_scan(img: &[u8], keys: usize, k: Admission, lane: u32, gate: u32, r: &mut Rng, a: &Jobs, b: &Jobs) -> i64 {
-    let more = match r.below(12) { 0 => 1, 1 => LANES - 1, 2 => LANES + 1, _ => LANES };
-    let mut u: Vec<u32> = (0..keys + more).map(|_| if r.below(2) == 0 { 0 } else { r.below(2000) as u32 }).collect();
-    let at = match r.below(6) { 0 => lane.wrapping_sub(1) as usize, 1 => lane as usize % LANES, _ => LANES };
-    if at < LANES.min(more) {
-        u[keys + at] = u32::MAX;
-    }
-    let mut v = u.clone();
-    let (t, l) = (if r.below(20) == 0 { u32::MAX } else { r.below(2000) as u32 }, r.below(900) as u32);
-    let (x, y) = ((a.scan)(img, &mut u, k.holder, k.slot, t, l, lane, gate), (b.scan)(img, &mut v, k.holder, k.slot, t, l, lane, gate));
-    assert!(x == y && u == v, "scan in lane {lane} {x} {y}");
-    x
-}
-
-/// Both give the same answers and leave the same buffers, on sound and damaged images.
-fn compare(ds: &[Data], a: &Jobs, b: &Jobs) -> usize {
-    let mut r = Rng(99);
-    let mut n = 0;
-    let mut scans = BTreeSet::new();
-    for d in ds {
-        for round in 0..400 {
-            let step = 1 + r.below(if round < 20 { 3 } else { 400 }) as usize;
-            let list: Vec<Admission> = d.list.iter().copied().skip(r.below(50) as usize).step_by(step).collect();
-            let (mut oa, mut ob) = (vec![7u8; MOST_BYTES], vec![7u8; MOST_BYTES]);
-            let short = if round % 9 == 0 { r.below(3000) as usize } else { MOST_BYTES };
-            let lift = match round % 11 { 0 => 0, 1 => 1000, 2 => 65536 + 7, 3 => 999, _ => 1 + r.below(999) as u32 };
-            let x = (a.write)(&list, lift, &mut oa[..short]);
-            let y = (b.write)(&list, lift, &mut ob[..short]);
-            assert!(x == y && oa == ob, "write {x} {y}");
-            // keys, now and then one of them twice
-            let mut keys: Vec<u32> = list.iter().map(|a| weave(a.holder, a.slot)).collect();
-            if round % 7 == 0 {
-                keys.push(keys[keys.len() - 1]);
-            }
-            let (mut ka, mut kb) = (vec![7u8; MOST_BYTES], vec![7u8; MOST_BYTES]);
-            let (u, v) = ((a.write_keys)(&keys, lift, &mut ka[..short]), (b.write_keys)(&keys, lift, &mut kb[..short]));
-            assert!(u == v && ka == kb, "write_keys {u} {v}");
-            n += 2;
-            if x < 0 {
-                continue;
-            }
-            let mut img = oa[..x as usize].to_vec();
-            if round % 5 == 0 {
-                img[4] = 1; // version 1, now and then with the lift left in
-                if round % 4 != 0 {
-                    img[40..42].fill(0);
-                }
-            }
-            if round % 3 != 0 {
-                for _ in 0..1 + r.below(2) {
-                    let at = 64 * r.below(x as u64 / 64) as usize + r.below(if r.0 % 2 == 0 { 4 } else { 64 }) as usize;
-                    match r.below(3) {
-                        0 => img[at] ^= 1 << r.below(8),
-                        1 => img[at] = img[at].wrapping_add(1),
-                        _ => img[at] = r.next() as u8,
-                    }
-                }
-            }
-            assert_eq!((a.check)(&img), (b.check)(&img), "check");
-            assert_eq!((a.lift)(&img), (b.lift)(&img), "lift");
-            n += 2;
-            for i in 0..12u32 {
-                let k = if i % 2 == 0 { list[r.below(list.len() as u64) as usize] } else { let (holder, slot) = unweave(d.misses[r.below(1024) as usize]); Admission { holder, slot } };
-                let key = (a.key)(k.holder, k.slot);
-                assert_eq!(key, (b.key)(k.holder, k.slot), "key");
-                assert_eq!((a.admission_of)(key as u32), (b.admission_of)(key as u32), "admission_of");
-                let (mut p, mut q) = ([9u32; 9], [9u32; 9]);
-                let (x, y) = ((a.lookup)(&img, k.holder, k.slot, &mut p), (b.lookup)(&img, k.holder, k.slot, &mut q));
-                assert!((x, p) == (y, q), "lookup {x} {y}");
-                let rank = r.below(list.len() as u64 + 2) as u32;
-                assert_eq!((a.find)(&img, rank), (b.find)(&img, rank), "find");
-                let mut q = d.shapes[i as usize % 3].1[r.below(64) as usize];
-                if i == 11 {
-                    std::mem::swap(&mut q.h0, &mut q.h1);
-                }
-                let c = (a.count)(&img, q);
-                assert_eq!(c, (b.count)(&img, q), "count");
-                let room = if i % 4 == 0 { (c.max(1) - 1) as usize } else { c.max(0) as usize + 3 };
-                let (mut u, mut v) = (vec![5u32; room], vec![5u32; room]);
-                let (x, y) = ((a.list)(&img, q, &mut u), (b.list)(&img, q, &mut v));
-                assert!(x == y && u == v, "list {x} {y}");
-                let gate = if i % 5 == 4 { lift + 65536 * r.below(2) as u32 + r.below(2) as u32 } else { lift };
-                for lane in lanes() {
-                    let x = compare_scan(&img, list.len(), k, lane, gate, &mut r, a, b);
-                    scans.insert((lane, x.min(0)));
-                }
-                n += 6 + lanes().count();
-            }
-        }
-    }
-    // each lane opened and got each refusal of a scan but 29; each other number got 36 and 29
-    for lane in lanes() {
-        for x in if lane.wrapping_sub(1) < LANES as u32 { &[0, -36, -21, -22, -23, -24, -25, -26][..] } else { &[-36, -29][..] } {
-            assert!(scans.contains(&(lane, *x)), "no scan in lane {lane} that gives {x}");
-        }
-    }
-    n
 }
 
 // ---- times
@@ -324,6 +229,11 @@ struct Row {
 
 fn case(by: &'static str, per: usize, f: impl FnMut() -> u64 + 'static) -> Case {
     Case { by, per: per as f64, f: Box::new(f), each: vec![] }
+}
+
+/// Scans 32 listed cards, in the lanes in turn.
+fn scans(scan: Scan, d: &Data, rec: &mut [u32], time: u32, lockout: u32) -> [i64; 32] {
+    std::array::from_fn(|i| { let (h, s) = unweave(d.hits[i]); scan(bb(&d.img), rec, h, s, time, lockout, (i % LANES + 1) as u32, LIFT) })
 }
 
 fn rows(d: &'static Data, both: &[Jobs]) -> Vec<Row> {
@@ -357,7 +267,12 @@ fn rows(d: &'static Data, both: &[Jobs]) -> Vec<Row> {
     add("list, whole square", &|j| { let (f, mut o) = (j.list, vec![0u32; N]); case(j.name, 1, move || f(bb(img), whole, &mut o) as u64) },
         Some(case("sorted array", 1, { let mut o = vec![0u32; N]; move || { o.copy_from_slice(bb(&d.keys)); bb(&o)[7] as u64 } })));
     add("scan that opens", &|j| { let (f, mut rec, mut t) = (j.scan, vec![0u32; N + LANES], 0u32);
-        case(j.name, 32, move || { t += 1; rec[N..].fill(0); d.hits[..32].iter().zip((1..=LANES as u32).cycle()).map(|(&k, lane)| { let (h, s) = unweave(k); f(bb(img), &mut rec, h, s, t, 0, lane, LIFT) as u64 }).sum() }) }, None);
+        assert!(scans(f, d, &mut rec, t, 0).iter().all(|&x| x >= 0));
+        case(j.name, 32, move || { t += 1; rec[N..].fill(0); scans(f, d, &mut rec, t, 0).iter().sum::<i64>() as u64 }) }, None);
+    // every admission opened at 1000
+    add("scan, locked out", &|j| { let (f, mut rec) = (j.scan, [vec![1001u32; N], vec![0; LANES]].concat());
+        assert_eq!(scans(f, d, &mut rec, 1200, 600), [-26; 32]);
+        case(j.name, 32, move || scans(f, d, &mut rec, 1200, 600).iter().sum::<i64>() as u64) }, None);
     rows
 }
 
@@ -375,8 +290,8 @@ fn main() {
     let rounds: usize = std::env::var("ROUNDS").ok().and_then(|s| s.parse().ok()).unwrap_or(41);
     let both = [hand_written(), verified()];
     let mut r = Rng(0x5eed);
-    let ds: &'static [Data] = Vec::leak(["random", "clustered", "dense"].iter().map(|n| data(n, &mut r)).collect());
-    println!("{} answers and buffers compared, all equal", compare(ds, &both[0], &both[1]));
+    let ds: &'static [Data] = Vec::leak(["random", "clustered", "dense", "long passes"].iter().map(|n| data(n, &mut r)).collect());
+    println!("{} answers and buffers compared, all equal", compare::compare(ds, &both[0], &both[1]));
     for d in ds {
         let mut rows = rows(d, &both);
         let mut turns: Vec<Vec<usize>> = vec![];
