@@ -10,7 +10,7 @@
 #include "lpt.h"
 
 #define HOLDERS 40
-#define MORNING 8
+#define MORNING 10
 #define LIFT 7
 #define LANES 2 /* of at most LPT_LANES */
 
@@ -71,13 +71,14 @@ int main(void)
     say("bytes written from keys", length);
     printf("%s\n", length == size && memcmp(image, again, (size_t)size) == 0 ? "the same image" : "another image");
 
-    /* Scans in both lanes, with a lockout of ten minutes. The lockout holds in every lane. */
+    /* Scans in both lanes, with a lockout of ten minutes. It holds in every lane, and for all of the holder's half-days. */
     static uint32_t records[3 * HOLDERS + LPT_LANES];
     size_t places = n + LPT_LANES;
     say("holder 1007 at 1000, lane 1", lpt_scan(image, (size_t)size, records, places, 1007, MORNING, 1000, 600, 1, LIFT));
+    say("with the afternoon at 1200, lane 1", lpt_scan(image, (size_t)size, records, places, 1007, MORNING + 1, 1200, 600, 1, LIFT));
     say("again at 1599, lane 2", lpt_scan(image, (size_t)size, records, places, 1007, MORNING, 1599, 600, 2, LIFT));
-    say("again at 1600, lane 2", lpt_scan(image, (size_t)size, records, places, 1007, MORNING, 1600, 600, 2, LIFT));
-    say("at 900, before its last opening", lpt_scan(image, (size_t)size, records, places, 1007, MORNING, 900, 600, 1, LIFT));
+    say("with the afternoon at 1600, lane 2", lpt_scan(image, (size_t)size, records, places, 1007, MORNING + 1, 1600, 600, 2, LIFT));
+    say("at 900, before the holder's last opening", lpt_scan(image, (size_t)size, records, places, 1007, MORNING, 900, 600, 1, LIFT));
     say("holder 1008, who has no admission", lpt_scan(image, (size_t)size, records, places, 1008, MORNING, 1600, 600, 1, LIFT));
     say("holder 1014, lane 1", lpt_scan(image, (size_t)size, records, places, 1014, MORNING, 1600, 600, 1, LIFT));
     say("holder 1021, lane 9, which is not there", lpt_scan(image, (size_t)size, records, places, 1021, MORNING, 1600, 600, 9, LIFT));
@@ -85,7 +86,12 @@ int main(void)
     for (int lane = 1; lane <= LANES; lane++)
         printf("openings in lane %d: %lu\n", lane, (unsigned long)records[n + lane - 1]);
 
+    /* Each opening stands at its own rank. */
     uint32_t found[9];
+    for (uint16_t s = MORNING; s < MORNING + 3; s++)
+        if (lpt_lookup(image, (size_t)size, 1007, s, found) == 1)
+            printf("record of holder 1007, slot %u: %lu\n", (unsigned)s, (unsigned long)records[found[0]]);
+
     if (lpt_lookup(image, (size_t)size, 1007, MORNING, found) == 1) {
         printf("rank %lu on pages", (unsigned long)found[0]);
         for (int i = 1; i <= 8; i++)
