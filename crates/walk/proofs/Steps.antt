@@ -74,13 +74,21 @@ module _ (img : List ℕ) (rectangle : Rectangle) (w x : ℕ) where
 
 module _ {img : List ℕ} {b link x : ℕ} (o : Opening img b link x) where
   module _ (z : b ≡ 9) where
-    key-there : List·Memᴰ x (keysOf img)
-    key-there =
+    -- the out-link's number is the key's
+    pub key-within : link < length (keysOf img)
+    key-within =
         let r = o .ready in
         let d : 4 * (b - 1) ≡ 32 = omega arith in
-        let e : getD (keysOf img) link 0 ≡ x = ap (λ (l : List ℕ). getD l link 0) (sym (prefixes-keys img (bytes r) (checked r) (r .some))) ∙ ap (λ (n : ℕ). getD (prefixesAt img n) link 0) (sym d) ∙ o .at .prefix in
-        let within : link < length (keysOf img) = omega (arith, o .at .within, ap (λ (n : ℕ). length (prefixesAt img n)) d, ap length (prefixes-keys img (bytes r) (checked r) (r .some))) in
-        Memᴰ·cast (sym e) (mem-at (keysOf img) link within)
+        omega (arith, o .at .within, ap (λ (n : ℕ). length (prefixesAt img n)) d, ap length (prefixes-keys img (bytes r) (checked r) (r .some)))
+
+    pub key-here : getD (keysOf img) link 0 ≡ x
+    key-here =
+        let r = o .ready in
+        let d : 4 * (b - 1) ≡ 32 = omega arith in
+        ap (λ (l : List ℕ). getD l link 0) (sym (prefixes-keys img (bytes r) (checked r) (r .some))) ∙ ap (λ (n : ℕ). getD (prefixesAt img n) link 0) (sym d) ∙ o .at .prefix
+
+    key-there : List·Memᴰ x (keysOf img)
+    key-there = Memᴰ·cast (sym key-here) (mem-at (keysOf img) link key-within)
 
     lowest-is : x * 2 ^ (36 - 4 * b) ≡ x
     lowest-is = let w : 36 - 4 * b ≡ 0 = omega arith in ap (λ (n : ℕ). x * 2 ^ n) w ∙ mul-one x

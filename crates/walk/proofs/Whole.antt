@@ -1,5 +1,6 @@
 -- The members of a rectangle are those between the first key and the last.
 -- Assumes nothing.
+use mathlib.Core.Bool.{Bool}
 use mathlib.Core.List.{List, [], _∷_}
 use mathlib.Core.Path.{_≡_, refl, sym, ap, subst, _∙_}
 use Prim.Native.Nat.{ℕ, _+_, _*_, _^_, _≤_, _<_}
@@ -39,6 +40,11 @@ image-long {img} a = facts img a .questions .header .long
 pub ready-of : {img : List ℕ} → Accepted img → (keyCount img ≡ 0 → ⊥) → Ready img
 ready-of a f = record { accepted = a; some = omega (arith, f) }
 
+-- every key is one of 32 bits
+pub passing-whole : {img : List ℕ} → Accepted img → (f : ℕ → Bool) → membersBetween img f (0 * 2 ^ 32) ((0 + 1) * 2 ^ 32) ≡ select f (keysOf img)
+unfolding membersBetween
+passing-whole {img} a f = ap (select f) (all-between (keysOf img) 0 4294967296 (within (keysOf img) (facts img a .keys .fits)))
+
 module _ {img : List ℕ} (a : Accepted img) (rectangle : Rectangle) where
   pub members-at-most : length (memberKeys img rectangle) ≤ keyCount img
   unfolding memberKeys
@@ -52,10 +58,9 @@ module _ {img : List ℕ} (a : Accepted img) (rectangle : Rectangle) where
   unfolding memberKeys select
   no-members z = ap (select (inside rectangle)) (no-keys-listed img (a .bytes) (facts img a .questions) z)
 
-  -- every key is one of 32 bits
   pub members-whole : membersBetween img (inside rectangle) (0 * 2 ^ 32) ((0 + 1) * 2 ^ 32) ≡ memberKeys img rectangle
-  unfolding membersBetween memberKeys
-  members-whole = ap (select (inside rectangle)) (all-between (keysOf img) 0 4294967296 (within (keysOf img) (facts img a .keys .fits)))
+  unfolding memberKeys
+  members-whole = passing-whole a (inside rectangle)
 
   -- the whole square
   module _ (p : Covers rectangle 32 0) where
@@ -63,8 +68,7 @@ module _ {img : List ℕ} (a : Accepted img) (rectangle : Rectangle) where
     members-all = sym members-whole ∙ members-every img rectangle 32 0 p
 
     pub count-all : length (memberKeys img rectangle) ≡ keyCount img
-    unfolding membersBetween
-    count-all = ap length (members-all ∙ ap (select anyKey) (all-between (keysOf img) 0 4294967296 (within (keysOf img) (facts img a .keys .fits))) ∙ select-every (keysOf img)) ∙ facts img a .keys .count-is
+    count-all = ap length (members-all ∙ passing-whole a anyKey ∙ select-every (keysOf img)) ∙ facts img a .keys .count-is
 
 -- the block of all keys
 pub whole-covers : (rectangle : Rectangle) {x : ℕ} {p : Place} → PlaceRight rectangle 32 x p → p ≡ Inside → x ≡ 0 → Covers rectangle 32 0
