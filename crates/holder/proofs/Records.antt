@@ -1,0 +1,75 @@
+-- The largest record of some keys, and of a holder's keys below an out-link.
+-- Assumes nothing.
+use mathlib.Core.Bool.{true}
+use mathlib.Core.List.{List, [], _∷_, _++_, map, map-append}
+use mathlib.Core.Path.{_≡_, sym, ap, subst, _∙_}
+use Prim.Native.Nat.{ℕ, _+_, _-_, _*_, _/_, _^_, _≤_, _<_, max}
+use native.Mathlib.Nat.{div-one}
+use native.Mathlib.Omega.{arith}
+use borrow.Author.Tests.{eq-eqb}
+use lib.ListN.{length, getD}
+use Rattle.format.specs.Seq.{largest, rankIn}
+use Rattle.format.specs.Image.{keyCount, keysOf}
+use Rattle.format.specs.Key.{holderOf}
+use Rattle.format.specs.Scan.{isHolders, largestRecord, recordOf}
+use Rattle.format.proofs.Accepted.{facts}
+use Rattle.format.proofs.Descent.{rank-at}
+use Rattle.subtries.specs.Spot.{rootPrefix}
+use Rattle.walk.specs.Walk.{Opening, membersBetween}
+use Rattle.walk.proofs.Steps.{key-here, key-within, keys-asc, members-key}
+use Rattle.holder.specs.Below.{Own, belowRecord}
+
+-- the largest of two lists
+largest-append : (a b : List ℕ) → largest (a ++ b) ≡ max (largest a) (largest b)
+unfolding largest
+largest-append [] b = omega arith
+largest-append (x ∷ a) b = omega (arith, largest-append a b)
+
+module _ (img records : List ℕ) where
+  -- the largest record of two lists of keys
+  pub record-append : (a b : List ℕ) → largestRecord img records (a ++ b) ≡ max (largestRecord img records a) (largestRecord img records b)
+  unfolding largestRecord
+  record-append a b = ap largest (map-append (recordOf img records) a b) ∙ largest-append (map (recordOf img records) a) (map (recordOf img records) b)
+
+  -- of no key
+  pub record-none : {keys : List ℕ} → keys ≡ [] → largestRecord img records keys ≡ 0
+  unfolding largestRecord largest
+  record-none e = ap (λ (l : List ℕ). largest (map (recordOf img records) l)) e
+
+  -- of one
+  record-one : (k : ℕ) → largestRecord img records (k ∷ []) ≡ recordOf img records k
+  unfolding largestRecord largest
+  record-one k = omega arith
+
+-- ---- below an out-link
+
+module _ {img : List ℕ} {b link x : ℕ} (o : Opening img b link x) where
+  -- what is below an out-link, by its prefix
+  pub below-is : (records : List ℕ) (holder : ℕ) → belowRecord img records holder b link ≡ largestRecord img records (membersBetween img (isHolders holder) (x * 2 ^ (36 - 4 * b)) ((x + 1) * 2 ^ (36 - 4 * b)))
+  unfolding belowRecord
+  below-is records holder = ap (λ (y : ℕ). largestRecord img records (membersBetween img (isHolders holder) (y * 2 ^ (36 - 4 * b)) ((y + 1) * 2 ^ (36 - 4 * b)))) (o .at .prefix)
+
+  -- its prefix has the holder's bits
+  pub own-of : {holder : ℕ} → holderOf x ≡ holder / 2 ^ (18 - 2 * b) → Own img holder b link
+  own-of e = record { opening = subst (Opening img b link) (sym (o .at .prefix)) o; bits = ap holderOf (o .at .prefix) ∙ e }
+
+-- ---- out of band 8: a key, of which the out-link's number is the rank
+
+module _ {img : List ℕ} {holder number link : ℕ} (own : Own img holder number link) (nine : number ≡ 9) where
+  -- the key is the holder's
+  key-own : isHolders holder (rootPrefix img number link) ≡ true
+  unfolding isHolders
+  key-own =
+      let w : 18 - 2 * number ≡ 0 = omega arith in
+      eq-eqb (holderOf (rootPrefix img number link)) holder (own .bits ∙ ap (λ (n : ℕ). holder / 2 ^ n) w ∙ div-one holder)
+
+  -- it has a record
+  pub rank-within : (records : List ℕ) → keyCount img ≤ length records → link < length records
+  rank-within records h = omega (arith, key-within (own .opening) nine, facts img (own .opening .ready .accepted) .keys .count-is)
+
+  -- which is the largest, since it is the only one
+  pub below-key : (records : List ℕ) → getD records link 0 ≡ belowRecord img records holder number link
+  unfolding belowRecord recordOf
+  below-key records =
+      let rank = ap (rankIn (keysOf img)) (sym (key-here (own .opening) nine)) ∙ rank-at (keysOf img) link (keys-asc (own .opening .ready)) (key-within (own .opening) nine) in
+      sym (ap (largestRecord img records) (members-key (own .opening) nine (isHolders holder) key-own) ∙ record-one img records (rootPrefix img number link) ∙ ap (λ (n : ℕ). getD records n 0) rank)
