@@ -1,7 +1,8 @@
--- Records and counts by lane after any history of scans of one image: they are told by the openings alone, and a refused scan changes nothing.
+-- Records and counts by lane after any history of scans: they are told by the openings alone, and a refused scan changes nothing.
 -- Assumes nothing.
 use mathlib.Core.Path.{_≡_, refl, sym, ap, _∙_}
 use mathlib.Core.Bool.{Bool, true, false, _||_, cond}
+use mathlib.Core.Option.{none}
 use mathlib.Core.List.{List, [], _∷_, _++_}
 use Prim.Native.Nat.{ℕ, suc, _+_, _≤_, _<_}
 use native.Mathlib.Omega.{arith}
@@ -11,11 +12,11 @@ use borrow.Author.Tests.{eq-eqb, ne-eqb, eqb-true, le-ltb, ltb-true}
 use lib.ListN.{length, getD, set, getD-replicate, length-append, length-replicate, length-set}
 use lib.Seq.{getD-set-same, getD-set-other}
 use Rattle.format.specs.Seq.{All, consIf, isIn, rankIn, select}
-use Rattle.format.specs.Key.{keyOf}
+use Rattle.format.specs.Key.{holderOf, keyOf}
 use Rattle.format.specs.Page.{Byte}
 use Rattle.format.specs.Image.{keyCount, keysOf}
-use Rattle.format.specs.Question.{Outcome, Question, Yes, imageQuestions, refused, returns, settle}
-use Rattle.format.specs.Scan.{gateQuestions, isLane, lanePlace, largest32, liftFits, lockoutQuestions, opened, recordOf, recordsAfter, recordsAfterScan, recordsLength, scan, scanQuestions}
+use Rattle.format.specs.Question.{Outcome, Yes, firstNo, imageQuestions, refused, returns}
+use Rattle.format.specs.Scan.{gateQuestions, isLane, lanePlace, holderRecord, largest32, liftFits, lockoutQuestions, opened, recordsAfter, recordsAfterScan, recordsLength, scan, scanQuestions}
 use Rattle.format.specs.History.{Card, History, Images, Opening, Recorded, afterCard, afterCards, atRank, inLane, noRecords, openingOf, openings, recordAfter, scanOf}
 use Rattle.format.proofs.Lists.{all-left, all-right}
 use Rattle.format.proofs.Questions.{none-of-yes, range-of, yes-of-none}
@@ -62,43 +63,64 @@ module _ (fits : Bool) (keys : ℕ) (records : List ℕ) (lane : ℕ) (listed : 
     few = ltb-true (getD records (lanePlace keys lane) 0) largest32 (y .1 .1 .1 .1 .0);
   }
 
+-- a scan that opens: each of its questions got a yes, and its rank
+pub record Opens (lift : ℕ) (img records : List ℕ) (lane key time lockout rank : ℕ) : Type 0 where
+  pub image-yes : firstNo (imageQuestions img) ≡ none
+  pub gate-yes : All Yes (gateQuestions (liftFits lift img) (keyCount img) records lane (isIn key (keysOf img)) time)
+  pub lockout-yes : All Yes (lockoutQuestions (holderRecord img records (holderOf key)) time lockout)
+  pub rank-is : rankIn (keysOf img) key ≡ rank
+
+pub opens-facts : (lift : ℕ) (img records : List ℕ) (lane holder slot time lockout rank : ℕ) → scan lift img records lane holder slot time lockout ≡ returns rank
+    → Opens lift img records lane (keyOf holder slot) time lockout rank
+unfolding scan scanQuestions
+opens-facts lift img records lane holder slot time lockout rank e =
+    let key = keyOf holder slot in
+    let (none-no, same) = yes-of-returns (imageQuestions img ++ scanQuestions lift img records lane key time lockout) (rankIn (keysOf img) key) rank e in
+    let yes-all = yes-of-none (imageQuestions img ++ scanQuestions lift img records lane key time lockout) none-no in
+    let scan-yes = all-right Yes (imageQuestions img) _ yes-all in
+    let gate = gateQuestions (liftFits lift img) (keyCount img) records lane (isIn key (keysOf img)) time in
+    let later = lockoutQuestions (holderRecord img records (holderOf key)) time lockout in
+    record {
+      image-yes = none-of-yes (imageQuestions img) (all-left Yes (imageQuestions img) _ yes-all);
+      gate-yes = all-left Yes gate later scan-yes;
+      lockout-yes = all-right Yes gate later scan-yes;
+      rank-is = same;
+    }
+
 -- what is known of an opening
-record Opened (n : ℕ) (records : List ℕ) (rank lane : ℕ) : Type 0 where
-  rank-small : rank < n
-  size : length records ≡ n + 8
-  lane-right : isLane lane ≡ true
+pub record Opened (n : ℕ) (records : List ℕ) (rank lane : ℕ) : Type 0 where
+  pub rank-small : rank < n
+  pub size : length records ≡ n + 8
+  pub lane-right : isLane lane ≡ true
 
-module _ (lift : ℕ) (img records : List ℕ) (lane key time lockout : ℕ) where
-  questions : List Question
-  questions = imageQuestions img ++ scanQuestions lift img records lane key time lockout
+module _ {lift : ℕ} {img records : List ℕ} {lane key time lockout rank : ℕ} (o : Opens lift img records lane key time lockout rank) where
+  pub opens-listed : isIn key (keysOf img) ≡ true
+  unfolding gateQuestions
+  opens-listed = o .gate-yes .1 .1 .1 .1 .1 .0
 
-  opened-facts : (rank : ℕ) → All Byte img → settle questions (rankIn (keysOf img) key) ≡ returns rank → Opened (keyCount img) records rank lane
-  unfolding questions scanQuestions gateQuestions
-  opened-facts rank a e =
-      let (none-no, same) = yes-of-returns questions (rankIn (keysOf img) key) rank e in
-      let yes-all = yes-of-none questions none-no in
-      let image = all-left Yes (imageQuestions img) _ yes-all in
-      let scan-yes = all-right Yes (imageQuestions img) _ yes-all in
-      let gate-yes = all-left Yes (gateQuestions (liftFits lift img) (keyCount img) records lane (isIn key (keysOf img)) time) (lockoutQuestions (recordOf img records key) time lockout) scan-yes in
-      let fit = records-fit (liftFits lift img) (keyCount img) records lane (isIn key (keysOf img)) time gate-yes in
-      let in-list = gate-yes .1 .1 .1 .1 .1 .0 in
-      let c = checked img (none-of-yes (imageQuestions img) image) in
-      record { rank-small = omega (arith, rank-below (keysOf img) key in-list, listed img a c .keys .count-is); size = fit .size; lane-right = fit .lane-right }
+  pub opened-facts : All Byte img → Opened (keyCount img) records rank lane
+  opened-facts a =
+      let fit = records-fit (liftFits lift img) (keyCount img) records lane (isIn key (keysOf img)) time (o .gate-yes) in
+      record {
+        rank-small = omega (arith, rank-below (keysOf img) key opens-listed, o .rank-is, listed img a (checked img (o .image-yes)) .keys .count-is);
+        size = fit .size;
+        lane-right = fit .lane-right;
+      }
 
 -- ---- the records after an opening
 
 module _ (n : ℕ) (records : List ℕ) (rank lane time : ℕ) (o : Opened n records rank lane) where
-  after : List ℕ
+  abbrev after : List ℕ
   after = opened n records lane rank time
 
   -- as many as before
-  opened-size : length after ≡ length records
-  unfolding after opened
+  pub opened-size : length after ≡ length records
+  unfolding opened
   opened-size = length-set (set records rank (time + 1)) (lanePlace n lane) (getD records (lanePlace n lane) 0 + 1) ∙ length-set records rank (time + 1)
 
   -- time + 1 at the rank, and the other ranks' records as they were
-  opened-rank : (r : ℕ) → r < n → getD after r 0 ≡ cond (eqb rank r) (time + 1) (getD records r 0)
-  unfolding after opened
+  pub opened-rank : (r : ℕ) → r < n → getD after r 0 ≡ cond (eqb rank r) (time + 1) (getD records r 0)
+  unfolding opened
   opened-rank r h =
       getD-set-other (set records rank (time + 1)) (lanePlace n lane) r (getD records (lanePlace n lane) 0 + 1) 0 (λ e. omega arith)
       ∙ elim (ℕ-discrete rank r) [
@@ -108,7 +130,7 @@ module _ (n : ℕ) (records : List ℕ) (rank lane time : ℕ) (o : Opened n rec
 
   -- one more in the lane, and the other lanes' counts as they were
   opened-lane : (l : ℕ) → isLane l ≡ true → getD after (lanePlace n l) 0 ≡ getD records (lanePlace n l) 0 + cond (eqb lane l) 1 0
-  unfolding after opened
+  unfolding opened
   opened-lane l h =
       let from = lane-range l h in
       elim (ℕ-discrete lane l) [
@@ -123,7 +145,7 @@ module _ (n : ℕ) (records : List ℕ) (rank lane time : ℕ) (o : Opened n rec
 -- ---- any history
 
 -- a list of one element or none
-record-one : (t : Bool) (x : ℕ) (o : Opening) → cond t (o .time + 1) x ≡ recordAfter x (consIf t o [])
+pub record-one : (t : Bool) (x : ℕ) (o : Opening) → cond t (o .time + 1) x ≡ recordAfter x (consIf t o [])
 unfolding consIf recordAfter
 record-one true x o = refl
 record-one false x o = refl
@@ -136,15 +158,15 @@ length-one false o = refl
 module _ (n : ℕ) where
   -- after one scan: an image that opens has n keys
   one-scan : (records : List ℕ) → length records ≡ n + 8 → (card : Card) → All Byte (card .image) → Recorded n records (openingOf (scanOf records card) card) (afterCard records card)
-  unfolding recordsAfterScan scan questions
+  unfolding recordsAfterScan
   one-scan records size card a =
-      go (scanOf records card) (λ rank e. opened-facts (card .lift) (card .image) records (card .lane) (keyOf (card .holder) (card .slot)) (card .time) (card .lockout) rank a e)
+      go (scanOf records card) (λ rank e. opened-facts (opens-facts (card .lift) (card .image) records (card .lane) (card .holder) (card .slot) (card .time) (card .lockout) rank e) a)
     where
       go : (o : Outcome ℕ) → ((rank : ℕ) → o ≡ returns rank → Opened (keyCount (card .image)) records rank (card .lane))
           → Recorded n records (openingOf o card) (recordsAfter o (keyCount (card .image)) records (card .lane) (card .time))
       go (refused k) f = unfold openingOf recordsAfter recordAfter atRank inLane select in record { size = refl; lanes = λ l h. omega arith; ranks = λ r h. refl }
       go (returns rank) f =
-          unfold openingOf recordsAfter atRank inLane select after in
+          unfold openingOf recordsAfter atRank inLane select in
           let same : keyCount (card .image) ≡ n = omega (arith, f rank refl .size, size) in
           let o : Opened n records rank (card .lane) = rw same at (f rank refl) in
           let opening : Opening = record { rank = rank; lane = card .lane; time = card .time } in
@@ -154,7 +176,7 @@ module _ (n : ℕ) where
             ranks = λ r h. opened-rank n records rank (card .lane) (card .time) o r h ∙ record-one (eqb rank r) (getD records r 0) opening;
           }
 
-record-append : (x : ℕ) (os ps : List Opening) → recordAfter x (os ++ ps) ≡ recordAfter (recordAfter x os) ps
+pub record-append : (x : ℕ) (os ps : List Opening) → recordAfter x (os ++ ps) ≡ recordAfter (recordAfter x os) ps
 unfolding recordAfter
 record-append x [] ps = refl
 record-append x (o ∷ os) ps = record-append (o .time + 1) os ps
@@ -189,5 +211,4 @@ history = record {
         ranks = λ r h. told .ranks r h ∙ ap (λ (x : ℕ). recordAfter x (atRank r (openings (noRecords n) cards))) (getD-replicate {A = ℕ} (n + 8) r 0 0 (omega arith));
       };
   recorded = λ n records size cards a. all-scans n records size cards a;
-  lockout-not-restarted = λ n records size cards a rank h none-opens. all-scans n records size cards a .ranks rank h ∙ ap (recordAfter (getD records rank 0)) none-opens;
 }

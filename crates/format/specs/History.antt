@@ -95,7 +95,3 @@ pub record History : Type 0 where
   -- from any records
   pub recorded : (n : ℕ) (records : List ℕ) → length records ≡ recordsLength n → (cards : List Card) → Images cards
       → Recorded n records (openings records cards) (afterCards records cards)
-  -- refused scans restart nobody's lockout: a rank that opens under none of the cards, however many of them are refused and whoever else opens, keeps
-  -- its record
-  pub lockout-not-restarted : (n : ℕ) (records : List ℕ) → length records ≡ recordsLength n → (cards : List Card) → Images cards
-      → (rank : ℕ) → rank < n → atRank rank (openings records cards) ≡ [] → getD (afterCards records cards) rank 0 ≡ getD records rank 0

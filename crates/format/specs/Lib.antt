@@ -24,6 +24,8 @@ pub mod Answer
 pub mod Scan
 -- scans one after the other, and the statement of what the records then tell
 pub mod History
+-- holders: what their records tell, and the statement of when a scan opens
+pub mod Holders
 -- what the listing program prints
 pub mod Text
 -- the statement that there is one image per list, version and lift

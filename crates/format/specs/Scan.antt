@@ -41,8 +41,8 @@ gateQuestions fits n records lane listed time =
     ∷ (24, listed)
     ∷ []
 
--- 25 and 26, of a record: never opened, or the time is not before the last opening; never opened, or at least the lockout seconds since. They are about
--- numbers, so that no sum overflows.
+-- 25 and 26, of a holder's record: never opened, or the time is not before the last opening; never opened, or at least the lockout seconds since. They
+-- are about numbers, so that no sum overflows.
 unfoldable pub timeRight : ℕ → ℕ → Bool
 timeRight last time = isZero last || leb last (time + 1)
 
@@ -77,10 +77,10 @@ keysOfHolder img holder = select (isHolders holder) (keysOf img)
 unfoldable pub holderRecord : List ℕ → List ℕ → ℕ → ℕ
 holderRecord img records holder = largestRecord img records (keysOfHolder img holder)
 
--- 36, 29 and 21 to 26, at a gate of that lift and in that lane
+-- 36, 29 and 21 to 26, at a gate of that lift and in that lane; 25 and 26 look at the record of the key's holder
 unfoldable pub scanQuestions : ℕ → List ℕ → List ℕ → ℕ → ℕ → ℕ → ℕ → List Question
 scanQuestions lift img records lane key time lockout =
-    gateQuestions (liftFits lift img) (keyCount img) records lane (isIn key (keysOf img)) time ++ lockoutQuestions (recordOf img records key) time lockout
+    gateQuestions (liftFits lift img) (keyCount img) records lane (isIn key (keysOf img)) time ++ lockoutQuestions (holderRecord img records (holderOf key)) time lockout
 
 -- 1 to 13, then these; returns the rank
 unfoldable pub scan : ℕ → List ℕ → List ℕ → ℕ → ℕ → ℕ → ℕ → ℕ → Outcome ℕ

@@ -8,16 +8,19 @@ use Prim.Native.Nat.{ℕ, _≤_, _<_}
 use native.Mathlib.Omega.{arith}
 use lib.Dec.{eqb}
 use borrow.Author.Tests.{eq-eqb, ne-eqb}
-use lib.ListN.{length, getD}
+use lib.ListN.{length}
 use Rattle.format.specs.Seq.{All, isIn, rankIn}
-use Rattle.format.specs.Key.{keyOf}
+use Rattle.format.specs.Key.{holderOf, keyOf}
 use Rattle.format.specs.Page.{Byte}
 use Rattle.format.specs.Image.{bands, keyCount, keysOf, liftOf}
 use Rattle.format.specs.Question.{Outcome, firstNo, imageQuestions, isZero, outcome, refused, returns, settle}
 use Rattle.format.specs.Answer.{LookupAnswer, absent, listed, lookup, lookupAnswer, pageOf}
-use Rattle.format.specs.Scan.{gateQuestions, liftFits, lockoutQuestions, recordOf, recordsAfter, recordsAfterScan, scan, scanQuestions}
+use Rattle.format.specs.Scan.{gateQuestions, holderRecord, liftFits, lockoutQuestions, recordsAfter, recordsAfterScan, scan, scanQuestions}
 use Rattle.format.proofs.Questions.{after-no, after-yes, yes-of-none}
 use Rattle.format.proofs.Jobs.{no-of-refused, yes-of-returns}
+use Rattle.format.proofs.Keys.{holderOf-keyOf}
+use Rattle.format.specs.Exact.{Accepted}
+use Rattle.format.proofs.Accepted.{returned-of-yes}
 use Rattle.format.proofs.Checked.{checked}
 use Rattle.format.proofs.Back.{listed as list-facts}
 use Rattle.format.proofs.Histories.{rank-below}
@@ -54,6 +57,9 @@ module _ (img : List ℕ) (holder slot : ℕ) where
 
     pub header-long : 64 ≤ length img
     header-long = checked img image-yes .header .long
+
+    pub image-accepted : All Byte img → Accepted img
+    image-accepted a = record { bytes = a; returned = returned-of-yes img image-yes }
 
   -- absent: not in the list
   off : lookup img holder slot ≡ returns absent → isIn key (keysOf img) ≡ false
@@ -113,12 +119,12 @@ module _ (lift : ℕ) (img records : List ℕ) (lane holder slot time lockout : 
     gate-refused : (refusal ≡ 0 → ⊥) → Done (refused refusal) records
     unfolding scanQuestions settle recordsAfter
     gate-refused some-no =
-        done (refused refusal) (refused-outcome refusal own-rank some-no ∙ ap (λ o. outcome o own-rank) (refused-first refusal _ asked (lockoutQuestions (recordOf img records own-key) time lockout) some-no) ∙ sym scan-is)
+        done (refused refusal) (refused-outcome refusal own-rank some-no ∙ ap (λ o. outcome o own-rank) (refused-first refusal _ asked (lockoutQuestions (holderRecord img records (holderOf own-key)) time lockout) some-no) ∙ sym scan-is)
 
     -- none does, and 25 and 26 decide
-    gate-passed : refusal ≡ 0 → scan lift img records lane holder slot time lockout ≡ settle (lockoutQuestions (recordOf img records own-key) time lockout) own-rank
+    gate-passed : refusal ≡ 0 → scan lift img records lane holder slot time lockout ≡ settle (lockoutQuestions (holderRecord img records (holderOf own-key)) time lockout) own-rank
     unfolding scanQuestions settle
-    gate-passed z = scan-is ∙ ap (λ o. outcome o own-rank) (passed-first refusal _ asked (lockoutQuestions (recordOf img records own-key) time lockout) z)
+    gate-passed z = scan-is ∙ ap (λ o. outcome o own-rank) (passed-first refusal _ asked (lockoutQuestions (holderRecord img records (holderOf own-key)) time lockout) z)
 
   -- an admission that is not listed: 24 at the latest
   pub scanned-absent : (refusal : ℕ) → lookup img holder slot ≡ returns absent → refusalOf refusal ≡ firstNo (gateQuestions (liftFits lift img) (keyCount img) records lane false time)
@@ -134,11 +140,11 @@ module _ (lift : ℕ) (img records : List ℕ) (lane holder slot time lockout : 
     pub scanned-no : (refusal ≡ 0 → ⊥) → Done (refused refusal) records
     scanned-no = gate-refused (listed rank pages) e true (on img holder slot rank pages e .0) refusal first
 
-    -- 25 and 26, of the rank's record; n is the key count that the code holds
-    pub scanned-yes : refusal ≡ 0 → (n : ℕ) → n ≡ keyCount img → (o : Outcome ℕ) (after : List ℕ)
-        → (o ≡ settle (lockoutQuestions (getD records rank 0) time lockout) rank) × (after ≡ recordsAfter o n records lane time) → Done o after
-    unfolding recordOf
-    scanned-yes z n k o after d =
+    -- 25 and 26, of the holder's record; n is the key count that the code holds
+    pub scanned-yes : refusal ≡ 0 → (n last : ℕ) → n ≡ keyCount img → holder < 65536 → last ≡ holderRecord img records holder → (o : Outcome ℕ) (after : List ℕ)
+        → (o ≡ settle (lockoutQuestions last time lockout) rank) × (after ≡ recordsAfter o n records lane time) → Done o after
+    scanned-yes z n last k small l o after d =
         let own : rank ≡ own-rank = sym (on img holder slot rank pages e .1) in
-        let all = done o (d .0 ∙ (λ i. settle (lockoutQuestions (getD records (own i) 0) time lockout) (own i)) ∙ sym (gate-passed (listed rank pages) e true (on img holder slot rank pages e .0) refusal first z)) in
+        let whose : last ≡ holderRecord img records (holderOf own-key) = l ∙ ap (holderRecord img records) (sym (holderOf-keyOf holder slot small)) in
+        let all = done o (d .0 ∙ (λ i. settle (lockoutQuestions (whose i) time lockout) (own i)) ∙ sym (gate-passed (listed rank pages) e true (on img holder slot rank pages e .0) refusal first z)) in
         (all .0, d .1 ∙ ap (λ (m : ℕ). recordsAfter o m records lane time) k ∙ all .1)

@@ -1,6 +1,7 @@
 // The gate's scan: whether a card opens, and what is recorded.
 use format::LANES;
 use format::one_to;
+use holder::holder_record;
 use query::Presence;
 ghost use mathlib.Core.Path.{_≡_};
 ghost use Prim.Native.Nat.{_≤_, _<_};
@@ -33,7 +34,7 @@ fn lift_fits(image: &[u8], lift: u32) -> bool
     named == lift as usize
 }
 
-// 25: never opened, or the time is not before the last opening. The sums are wider than 32 bits, so that none wraps.
+// 25, of a holder's record: never opened, or the time is not before the last opening. The sums are wider than 32 bits, so that none wraps.
 fn time_right(last: u32, time: u32) -> bool
     ensures { λ r. ⌜ r ≡ Scan.timeRight last time ⌝ }
 {
@@ -43,7 +44,7 @@ fn time_right(last: u32, time: u32) -> bool
     last as u64 <= time as u64 + 1
 }
 
-// 26: never opened, or at least the lockout seconds since.
+// 26, of a holder's record: never opened, or at least the lockout seconds since.
 fn lockout_over(last: u32, time: u32, lockout: u32) -> bool
     ensures { λ r. ⌜ r ≡ Scan.lockoutOver last time lockout ⌝ }
 {
@@ -104,7 +105,7 @@ fn gate_refusal(image: &[u8], records: &[u32], lane: u32, lift: u32, listed: boo
     if listed { 0 } else { 24 }
 }
 
-// 25 and 26, of the record `last`, where the lane, the records and the time fit; and the opening of the admission at `rank`.
+// 25 and 26, of the holder's record `last`, where the lane, the records and the time fit; and the opening of the admission at `rank`.
 fn admit(
     records: &mut [u32],
     keys: usize,
@@ -131,8 +132,8 @@ fn admit(
     Scanned::Opened(rank)
 }
 
-// Whether the admission opens in that lane of a gate of that lift, at that time, after the lockout. An opening returns its rank, records time + 1 there
-// and adds one to the lane's count; a refusal changes nothing.
+// Whether the admission opens in that lane of a gate of that lift, at that time, after the lockout since its holder's last opening under any slot. An
+// opening returns its rank, records time + 1 there and adds one to the lane's count; a refusal changes nothing.
 pub fn scan(
     image: &[u8],
     records: &mut [u32],
@@ -160,8 +161,7 @@ pub fn scan(
                 return Scanned::Refused(refusal);
             }
             let keys = header::key_count(image);
-            let place = rank as usize;
-            let last = records[place];
+            let last = holder_record(image, records, holder);
             return admit(records, keys, lane, rank, last, time, lockout);
         }
     }

@@ -3,6 +3,8 @@ use mathlib.Core.Path.{_≡_, sym, ap, _∙_}
 use Prim.Native.Nat.{_<_}
 use native.Mathlib.Omega.{arith}
 use borrow.Author.Needs.{needs}
+use Rattle.format.specs.Seq.{All}
+use Rattle.format.specs.Page.{Byte}
 use Rattle.format.specs.Question.{returns as answers}
 use Rattle.format.specs.Answer.{LookupAnswer, absent, listed, lookup}
 use Rattle.query.specs.Outcomes.{lookupOutcome}
@@ -10,7 +12,7 @@ use Rattle.format.proofs.Histories.{RecordsFit, records-fit}
 use Rattle.format.proofs.Questions.{yes-of-none}
 use Rattle.header.proofs.Refusals.{none-refused}
 use Rattle.nodes.proofs.Numbers.{bytes-of}
-use Rattle.gate.proofs.Scans.{header-long, image-refused, rank-small, scanned-absent, scanned-no, scanned-yes}
+use Rattle.gate.proofs.Scans.{header-long, image-accepted, image-refused, rank-small, scanned-absent, scanned-no, scanned-yes}
 use Rattle.gate.proofs.scan.Statement.{statement}
 use Rattle.gate.proofs.scan.Tie as tie
 
@@ -51,32 +53,39 @@ returns-3 c = scanned-no _ _ _ _ _ _ _ _ _ _ (is-listed (c .before .before .befo
 key-count-requires : tie.Need-key-count-requires
 key-count-requires c κs = header-long _ _ _ _ (is-listed (c .before .before .before))
 
+-- the image is of bytes
+bytes : (k : tie.After-key-count) → let s = k .before .before .before .before .before .before .before .before .before .before in All Byte (s .args .image .now)
+bytes k =
+    let l = k .before .before .before .before .before .before .before in
+    bytes-of (l .before .before .before .args .image .now) (λ i. l .before .before .shared-slice-known .given i .fits)
+
 -- its rank is below the key count
 below : (k : tie.After-key-count) → k .before .before .before .before .before .answer2 .given .0 .0 < k .key-count .result
 below k =
-    let t = k .before .before .before .before in
-    let l = t .before .before .before in
-    let s = l .before .before .before in
-    omega (arith, k .key-count .ensures .0, rank-small _ _ _ _ _ (is-listed t) (bytes-of (s .args .image .now) (λ i. l .before .before .shared-slice-known .given i .fits)))
+    omega (arith, k .key-count .ensures .0, rank-small _ _ _ _ _ (is-listed (k .before .before .before .before)) (bytes k))
 
 -- 36, 29 and 21 to 24 got a yes
 fit : (k : tie.After-key-count) → let s = k .before .before .before .before .before .before .before .before .before .before in
     RecordsFit (k .key-count .result) (s .args .records .now) (s .args .lane) (s .args .time)
 fit k = rw (k .key-count .ensures .0) (records-fit _ _ _ _ _ _ (yes-of-none _ (none-refused _ _ (k .before .before .gate-refusal2 .ensures) (k .before .if1 .left))))
 
-slice-read-last : tie.Need-slice-read-last
-slice-read-last c = omega (arith, below (c .before), fit (c .before) .size)
+holder-record-requires : tie.Need-holder-record-requires
+holder-record-requires c κs =
+    let k = c .before in
+    (image-accepted _ _ _ _ (is-listed (k .before .before .before .before)) (bytes k), omega (arith, fit k .size, k .key-count .ensures .0))
 
 admit-requires : tie.Need-admit-requires
-admit-requires c κs = let k = c .before .before in (k .key-count .ensures .1, below k, fit k)
+admit-requires c κs = let k = c .before .before .before in (k .key-count .ensures .1, below k, fit k)
 
 returns-4 : tie.Need-returns-4
 returns-4 c =
-    let k = c .before .before .before .before .before in
-    scanned-yes _ _ _ _ _ _ _ _ _ _ (is-listed (k .before .before .before .before)) _ (k .before .before .gate-refusal2 .ensures) (k .before .if1 .left) _ (k .key-count .ensures .0) _ _ (c .before .before .admit .ensures)
+    let h = c .before .before .before .before in
+    let k = h .before .before in
+    let t = k .before .before .before .before in
+    scanned-yes _ _ _ _ _ _ _ _ _ _ (is-listed t) _ (k .before .before .gate-refusal2 .ensures) (k .before .if1 .left) _ _ (k .key-count .ensures .0) (t .before .before .before .before .before .before .fits .holder .fits) (h .holder-record .ensures) _ _ (c .before .before .admit .ensures)
 
 pub scan-spec : {M : Type 1} → statement M
 scan-spec =
     tie.close
     (tie.spec (λ c κs. search needs) (λ c. search needs) returns (λ c. search needs) gate-refusal-requires (λ c. search needs) returns-2 (λ c. search needs)
-    gate-refusal-requires-2 (λ c. search needs) returns-3 key-count-requires (λ c. search needs) (λ c. search needs) slice-read-last admit-requires (λ c. search needs) returns-4)
+    gate-refusal-requires-2 (λ c. search needs) returns-3 key-count-requires holder-record-requires admit-requires (λ c. search needs) returns-4)

@@ -1,0 +1,125 @@
+-- A holder's record before and after an opening: it becomes time + 1 for the holder that opens, since 25 keeps it from falling, and every other holder's stays.
+-- Assumes nothing.
+use mathlib.Core.Path.{_≡_, refl, sym, ap, _∙_}
+use mathlib.Core.Bool.{cond}
+use mathlib.Core.List.{List, [], _∷_, map, List·Memᴰ, List·Memᴰ·head, List·Memᴰ·tail, List·Memᴰ·not-nil, List·Memᴰ·cases-cons, Memᴰ·map}
+use mathlib.Core.Logic.{⊎-elim}
+use Prim.Native.Nat.{ℕ, zero, suc, _+_, _≤_, _<_}
+use native.Mathlib.Omega.{arith}
+use native.Mathlib.Decide.{ℕ-discrete}
+use lib.Dec.{eqb}
+use borrow.Author.Tests.{eq-eqb, ne-eqb, eqb-true}
+use lib.ListN.{length, getD, replicate}
+use Rattle.format.specs.Seq.{largest, rankIn}
+use Rattle.format.specs.Key.{gather, holderOf, unwoven}
+use Rattle.format.specs.Image.{keysOf, listOf}
+use Rattle.format.specs.Scan.{holderRecord, isHolders, keysOfHolder, largestRecord, recordOf}
+use Rattle.format.specs.Holders.{holderAt}
+use Rattle.format.proofs.Trie.{Asc}
+use Rattle.format.proofs.Members.{mem-select, select-mem}
+use Rattle.format.proofs.Checked.{cond-no, cond-yes}
+use Rattle.format.proofs.Descent.{at-rank}
+
+-- ---- the largest of some numbers
+
+le-largest : (x : ℕ) (xs : List ℕ) → List·Memᴰ x xs → x ≤ largest xs
+unfolding largest
+le-largest x [] m = absurd (List·Memᴰ·not-nil m)
+le-largest x (y ∷ xs) m = ⊎-elim (λ (e : x ≡ y). omega arith) (λ (t : List·Memᴰ x xs). omega (arith, le-largest x xs t)) (List·Memᴰ·cases-cons m)
+
+-- of numbers that a function gives: a bound, and another function that agrees on the list
+map-le : (f : ℕ → ℕ) (m : ℕ) (l : List ℕ) → ((k : ℕ) → List·Memᴰ k l → f k ≤ m) → largest (map f l) ≤ m
+unfolding largest
+map-le f m [] h = omega arith
+map-le f m (x ∷ l) h = omega (arith, h x (List·Memᴰ·head refl), map-le f m l (λ k t. h k (List·Memᴰ·tail t)))
+
+map-agree : (f g : ℕ → ℕ) (l : List ℕ) → ((k : ℕ) → List·Memᴰ k l → f k ≡ g k) → map f l ≡ map g l
+map-agree f g [] h = refl
+map-agree f g (x ∷ l) h = λ i. h x (List·Memᴰ·head refl) i ∷ map-agree f g l (λ k m. h k (List·Memᴰ·tail m)) i
+
+-- ---- a holder's keys
+
+module _ (img : List ℕ) (holder : ℕ) where
+  mem-holder : (key : ℕ) → List·Memᴰ key (keysOfHolder img holder) → List·Memᴰ key (keysOf img) × (holderOf key ≡ holder)
+  unfolding keysOfHolder isHolders
+  mem-holder key m = let (t, e) = select-mem (isHolders holder) key (keysOf img) m in (t, eqb-true (holderOf key) holder e)
+
+  -- the record of one of them is at most the holder's
+  record-le : (records : List ℕ) (key : ℕ) → List·Memᴰ key (keysOf img) → holderOf key ≡ holder → recordOf img records key ≤ holderRecord img records holder
+  unfolding holderRecord largestRecord keysOfHolder isHolders
+  record-le records key m e =
+      le-largest (recordOf img records key) (map (recordOf img records) (keysOfHolder img holder))
+      (Memᴰ·map (recordOf img records) (mem-select (isHolders holder) key (keysOf img) m (eq-eqb (holderOf key) holder e)))
+
+-- the holder at a rank is the key's there
+holder-at : (img : List ℕ) (rank : ℕ) → holderAt img rank ≡ holderOf (getD (keysOf img) rank 0)
+unfolding holderAt listOf unwoven holderOf gather
+holder-at img rank = go (keysOf img) rank
+  where
+    go : (keys : List ℕ) (r : ℕ) → getD (unwoven keys) r (0, 0) .0 ≡ holderOf (getD keys r 0)
+    go [] r = refl
+    go (k ∷ keys) zero = refl
+    go (k ∷ keys) (suc r) = go keys r
+
+-- ---- an opening
+
+-- time + 1 at the rank of a listed key, the other records as they were; no record of its holder was above that
+pub record Renewed (img records after : List ℕ) (key time : ℕ) : Type 0 where
+  pub asc : Asc (keysOf img)
+  pub listed : List·Memᴰ key (keysOf img)
+  pub before : holderRecord img records (holderOf key) ≤ time + 1
+  pub ranks : (r : ℕ) → r < length (keysOf img) → getD after r 0 ≡ cond (eqb (rankIn (keysOf img) key) r) (time + 1) (getD records r 0)
+
+module _ {img records after : List ℕ} {key time : ℕ} (o : Renewed img records after key time) where
+  own : recordOf img after key ≡ time + 1
+  unfolding recordOf
+  own = o .ranks (rankIn (keysOf img) key) (at-rank (keysOf img) key (o .asc) (o .listed) .within) ∙ cond-yes (eqb (rankIn (keysOf img) key) (rankIn (keysOf img) key)) _ _ (eq-eqb (rankIn (keysOf img) key) (rankIn (keysOf img) key) refl)
+
+  other : (k : ℕ) → List·Memᴰ k (keysOf img) → (key ≡ k → ⊥) → recordOf img after k ≡ recordOf img records k
+  unfolding recordOf
+  other k m ne =
+      let a = at-rank (keysOf img) k (o .asc) m in
+      let b = at-rank (keysOf img) key (o .asc) (o .listed) in
+      o .ranks (rankIn (keysOf img) k) (a .within)
+      ∙ cond-no (eqb (rankIn (keysOf img) key) (rankIn (keysOf img) k)) _ _
+      (ne-eqb (rankIn (keysOf img) key) (rankIn (keysOf img) k) (λ e. ne (sym (b .here) ∙ ap (λ (r : ℕ). getD (keysOf img) r 0) e ∙ a .here)))
+
+  holder-renewed : holderRecord img after (holderOf key) ≡ time + 1
+  unfolding holderRecord largestRecord
+  holder-renewed =
+      let up : largest (map (recordOf img after) (keysOfHolder img (holderOf key))) ≤ time + 1 =
+      map-le (recordOf img after) (time + 1) (keysOfHolder img (holderOf key))
+      (λ k m. let (t, e) = mem-holder img (holderOf key) k m in elim (ℕ-discrete key k) [
+        | yes d ↦ omega (arith, ap (recordOf img after) (sym d) ∙ own)
+        | no d ↦ omega (arith, other k t d, record-le img (holderOf key) records k t e, o .before)
+      ]) in
+      omega (arith, up, record-le img (holderOf key) after key (o .listed) refl, own)
+
+  holder-same : (holder : ℕ) → (holderOf key ≡ holder → ⊥) → holderRecord img after holder ≡ holderRecord img records holder
+  unfolding holderRecord largestRecord
+  holder-same holder ne =
+      ap largest (map-agree (recordOf img after) (recordOf img records) (keysOfHolder img holder)
+      (λ k m. let (t, e) = mem-holder img holder k m in other k t (λ d. ne (ap holderOf d ∙ e))))
+
+  -- the holder that opens is the one at the rank
+  pub holder-here : holderAt img (rankIn (keysOf img) key) ≡ holderOf key
+  holder-here = holder-at img (rankIn (keysOf img) key) ∙ ap holderOf (at-rank (keysOf img) key (o .asc) (o .listed) .here)
+
+  pub holder-after : (holder : ℕ) → holderRecord img after holder ≡ cond (eqb (holderOf key) holder) (time + 1) (holderRecord img records holder)
+  holder-after holder =
+      elim (ℕ-discrete (holderOf key) holder) [
+        | yes d ↦ ap (holderRecord img after) (sym d) ∙ holder-renewed ∙ sym (cond-yes (eqb (holderOf key) holder) (time + 1) (holderRecord img records holder) (eq-eqb (holderOf key) holder d))
+        | no d ↦ holder-same holder d ∙ sym (cond-no (eqb (holderOf key) holder) (time + 1) (holderRecord img records holder) (ne-eqb (holderOf key) holder d))
+      ]
+
+-- where no record is set, no holder's is
+pub holder-zeros : (img : List ℕ) (n holder : ℕ) → holderRecord img (replicate n 0) holder ≡ 0
+unfolding holderRecord largestRecord recordOf
+holder-zeros img n holder =
+    let le = map-le (recordOf img (replicate n 0)) 0 (keysOfHolder img holder) (λ k m. omega (arith, zero-at n (rankIn (keysOf img) k))) in
+    omega (arith, le)
+  where
+    zero-at : (n r : ℕ) → getD {A = ℕ} (replicate n 0) r 0 ≡ 0
+    zero-at zero r = refl
+    zero-at (suc n) zero = refl
+    zero-at (suc n) (suc r) = zero-at n r
