@@ -12,11 +12,11 @@ use borrow.Author.Tests.{eq-eqb, ne-eqb, eqb-true, le-ltb, ltb-true}
 use lib.ListN.{length, getD, set, getD-replicate, length-append, length-replicate, length-set}
 use lib.Seq.{getD-set-same, getD-set-other}
 use Rattle.format.specs.Seq.{All, consIf, isIn, rankIn, select}
-use Rattle.format.specs.Key.{holderOf, keyOf}
+use Rattle.format.specs.Key.{keyOf}
 use Rattle.format.specs.Page.{Byte}
 use Rattle.format.specs.Image.{keyCount, keysOf}
 use Rattle.format.specs.Question.{Outcome, Yes, firstNo, imageQuestions, refused, returns}
-use Rattle.format.specs.Scan.{gateQuestions, isLane, lanePlace, holderRecord, largest32, liftFits, lockoutQuestions, opened, recordsAfter, recordsAfterScan, recordsLength, scan, scanQuestions}
+use Rattle.format.specs.Scan.{gateQuestions, isLane, lanePlace, largest32, liftFits, opened, recordsAfter, recordsAfterScan, recordsLength, scan, scanQuestions}
 use Rattle.format.specs.History.{Card, History, Images, Opening, Recorded, afterCard, afterCards, atRank, inLane, noRecords, openingOf, openings, recordAfter, scanOf}
 use Rattle.format.proofs.Lists.{all-left, all-right}
 use Rattle.format.proofs.Questions.{none-of-yes, range-of, yes-of-none}
@@ -66,24 +66,19 @@ module _ (fits : Bool) (keys : ℕ) (records : List ℕ) (lane : ℕ) (listed : 
 -- a scan that opens: each of its questions got a yes, and its rank
 pub record Opens (lift : ℕ) (img records : List ℕ) (lane key time lockout rank : ℕ) : Type 0 where
   pub image-yes : firstNo (imageQuestions img) ≡ none
-  pub gate-yes : All Yes (gateQuestions (liftFits lift img) (keyCount img) records lane (isIn key (keysOf img)) time)
-  pub lockout-yes : All Yes (lockoutQuestions (holderRecord img records (holderOf key)) time lockout)
+  pub scan-yes : All Yes (scanQuestions lift img records lane key time lockout)
   pub rank-is : rankIn (keysOf img) key ≡ rank
 
 pub opens-facts : (lift : ℕ) (img records : List ℕ) (lane holder slot time lockout rank : ℕ) → scan lift img records lane holder slot time lockout ≡ returns rank
     → Opens lift img records lane (keyOf holder slot) time lockout rank
-unfolding scan scanQuestions
+unfolding scan
 opens-facts lift img records lane holder slot time lockout rank e =
     let key = keyOf holder slot in
     let (none-no, same) = yes-of-returns (imageQuestions img ++ scanQuestions lift img records lane key time lockout) (rankIn (keysOf img) key) rank e in
     let yes-all = yes-of-none (imageQuestions img ++ scanQuestions lift img records lane key time lockout) none-no in
-    let scan-yes = all-right Yes (imageQuestions img) _ yes-all in
-    let gate = gateQuestions (liftFits lift img) (keyCount img) records lane (isIn key (keysOf img)) time in
-    let later = lockoutQuestions (holderRecord img records (holderOf key)) time lockout in
     record {
       image-yes = none-of-yes (imageQuestions img) (all-left Yes (imageQuestions img) _ yes-all);
-      gate-yes = all-left Yes gate later scan-yes;
-      lockout-yes = all-right Yes gate later scan-yes;
+      scan-yes = all-right Yes (imageQuestions img) _ yes-all;
       rank-is = same;
     }
 
@@ -94,13 +89,17 @@ pub record Opened (n : ℕ) (records : List ℕ) (rank lane : ℕ) : Type 0 wher
   pub lane-right : isLane lane ≡ true
 
 module _ {lift : ℕ} {img records : List ℕ} {lane key time lockout rank : ℕ} (o : Opens lift img records lane key time lockout rank) where
+  gate-yes : All Yes (gateQuestions (liftFits lift img) (keyCount img) records lane (isIn key (keysOf img)) time)
+  unfolding scanQuestions
+  gate-yes = all-left Yes (gateQuestions (liftFits lift img) (keyCount img) records lane (isIn key (keysOf img)) time) _ (o .scan-yes)
+
   pub opens-listed : isIn key (keysOf img) ≡ true
   unfolding gateQuestions
-  opens-listed = o .gate-yes .1 .1 .1 .1 .1 .0
+  opens-listed = gate-yes .1 .1 .1 .1 .1 .0
 
   pub opened-facts : All Byte img → Opened (keyCount img) records rank lane
   opened-facts a =
-      let fit = records-fit (liftFits lift img) (keyCount img) records lane (isIn key (keysOf img)) time (o .gate-yes) in
+      let fit = records-fit (liftFits lift img) (keyCount img) records lane (isIn key (keysOf img)) time gate-yes in
       record {
         rank-small = omega (arith, rank-below (keysOf img) key opens-listed, o .rank-is, listed img a (checked img (o .image-yes)) .keys .count-is);
         size = fit .size;

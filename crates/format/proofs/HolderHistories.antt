@@ -39,13 +39,13 @@ right-le last time h =
 
 module _ {lift : ℕ} {img records : List ℕ} {lane key time lockout rank : ℕ} (o : Opens lift img records lane key time lockout rank) (a : All Byte img) where
   renewed : Renewed img records (opened (keyCount img) records lane rank time) key time
-  unfolding lockoutQuestions
+  unfolding scanQuestions lockoutQuestions
   renewed =
       let keys = listed img a (checked img (o .image-yes)) .keys in
       record {
         asc = keys .asc;
         listed = mem-isIn key (keysOf img) (opens-listed o);
-        before = right-le (holderRecord img records (holderOf key)) time (o .lockout-yes .0);
+        before = right-le (holderRecord img records (holderOf key)) time (all-right Yes (gateQuestions (liftFits lift img) (keyCount img) records lane (isIn key (keysOf img)) time) _ (o .scan-yes) .0);
         ranks = λ r h. rw (o .rank-is) (opened-rank (keyCount img) records rank lane time (opened-facts o a) r (omega (arith, keys .count-is)));
       }
 
