@@ -16,7 +16,7 @@
  * Every function that takes an image checks all of it first; there is no need to call lpt_check before.
  *
  * Stack, measured on 4,096 random admissions on x86-64: lpt_write 17,088 bytes, lpt_write_keys 16,928, lpt_list
- * 2,872, lpt_count 2,840, lpt_scan 1,024, lpt_lookup 960, lpt_find 560, lpt_key 544, lpt_check and lpt_lift 320,
+ * 2,872, lpt_count 2,840, lpt_scan 2,248, lpt_lookup 960, lpt_find 560, lpt_key 544, lpt_check and lpt_lift 320,
  * lpt_admission_of 88.
  */
 #ifndef LPT_H
