@@ -2,8 +2,7 @@
 -- Assumes nothing.
 use mathlib.Core.Path.{_≡_, refl, sym, ap, _∙_}
 use mathlib.Core.Bool.{cond}
-use mathlib.Core.List.{List, [], _∷_, map, List·Memᴰ, List·Memᴰ·head, List·Memᴰ·tail, List·Memᴰ·not-nil, List·Memᴰ·cases-cons, Memᴰ·map}
-use mathlib.Core.Logic.{⊎-elim}
+use mathlib.Core.List.{List, [], _∷_, map, List·Memᴰ, Memᴰ·map}
 use Prim.Native.Nat.{ℕ, zero, suc, _+_, _≤_, _<_}
 use native.Mathlib.Omega.{arith}
 use native.Mathlib.Decide.{ℕ-discrete}
@@ -15,27 +14,11 @@ use Rattle.format.specs.Key.{gather, holderOf, unwoven}
 use Rattle.format.specs.Image.{keysOf, listOf}
 use Rattle.format.specs.Scan.{holderRecord, isHolders, keysOfHolder, largestRecord, recordOf}
 use Rattle.format.specs.Holders.{holderAt}
+use Rattle.format.proofs.Largest.{le-largest, map-agree, map-le}
 use Rattle.format.proofs.Trie.{Asc}
 use Rattle.format.proofs.Members.{mem-select, select-mem}
 use Rattle.format.proofs.Checked.{cond-no, cond-yes}
 use Rattle.format.proofs.Descent.{at-rank}
-
--- ---- the largest of some numbers
-
-le-largest : (x : ℕ) (xs : List ℕ) → List·Memᴰ x xs → x ≤ largest xs
-unfolding largest
-le-largest x [] m = absurd (List·Memᴰ·not-nil m)
-le-largest x (y ∷ xs) m = ⊎-elim (λ (e : x ≡ y). omega arith) (λ (t : List·Memᴰ x xs). omega (arith, le-largest x xs t)) (List·Memᴰ·cases-cons m)
-
--- of numbers that a function gives: a bound, and another function that agrees on the list
-map-le : (f : ℕ → ℕ) (m : ℕ) (l : List ℕ) → ((k : ℕ) → List·Memᴰ k l → f k ≤ m) → largest (map f l) ≤ m
-unfolding largest
-map-le f m [] h = omega arith
-map-le f m (x ∷ l) h = omega (arith, h x (List·Memᴰ·head refl), map-le f m l (λ k t. h k (List·Memᴰ·tail t)))
-
-map-agree : (f g : ℕ → ℕ) (l : List ℕ) → ((k : ℕ) → List·Memᴰ k l → f k ≡ g k) → map f l ≡ map g l
-map-agree f g [] h = refl
-map-agree f g (x ∷ l) h = λ i. h x (List·Memᴰ·head refl) i ∷ map-agree f g l (λ k m. h k (List·Memᴰ·tail m)) i
 
 -- ---- a holder's keys
 
