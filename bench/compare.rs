@@ -47,7 +47,7 @@ fn own_and_others(list: &[Admission], records: &[u32], k: Admission) -> (u32, Op
     (largest(true).unwrap_or(0), largest(false))
 }
 
-/// A gate: its image, the list that was written, whether the image still is as written, and the gate's lift.
+/// A gate: its image, the list that was written, whether no byte of it was damaged, and the gate's lift.
 struct Gate<'a> {
     img: &'a [u8],
     list: &'a [Admission],

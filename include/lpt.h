@@ -90,8 +90,8 @@ typedef struct {
 #define LPT_NO_TIME 22        /* the time is 4,294,967,295 */
 #define LPT_NO_OPENINGS 23    /* the lane's count is 4,294,967,295 */
 #define LPT_NO_ADMISSION 24   /* the admission is not listed */
-#define LPT_NO_EARLIER 25     /* the time is before the last opening of any of the holder's listed admissions */
-#define LPT_NO_LOCKOUT 26     /* the lockout since that opening is not over */
+#define LPT_NO_EARLIER 25     /* the time is before the holder's last opening under any listed slot */
+#define LPT_NO_LOCKOUT 26     /* the lockout since the holder's last opening is not over */
 
 /* Returns the key of a holder and a slot, below 2^32: their bits by turns, the holder's first. Refuses nothing. */
 int64_t lpt_key(uint16_t holder, uint16_t slot);
@@ -142,9 +142,9 @@ int64_t lpt_find(const uint8_t *img, size_t len, uint32_t rank);
  * is the record of the admission of rank r alone, 0 if no scan of it opened, else the time of the last that did + 1;
  * then each lane's count of openings, lane 1's first, so that lane L's is element key count + L - 1. 25 and 26 look
  * at the holder's record, the largest among the records of all of that holder's listed admissions. lift is the gate's
- * own: any number, and an image of version 1 passes at any gate. An opening returns the rank, writes time + 1 there
- * alone and adds one to the lane's count alone. Refuses with 1 to 13, 36, 29, 21 to 26, and then no element changes.
- * Scans that share rec must come one after the other, in different lanes too.
+ * own: any number, and an image of version 1 passes at any gate. An opening returns the rank, writes time + 1 there,
+ * adds one to the lane's count and changes no other element. Refuses with 1 to 13, 36, 29, 21 to 26, and then no
+ * element changes. Scans that share rec must come one after the other, in different lanes too.
  */
 int64_t lpt_scan(const uint8_t *img, size_t len, uint32_t *rec, size_t rec_len, uint16_t holder, uint16_t slot,
                  uint32_t time, uint32_t lockout, uint32_t lane, uint32_t lift);

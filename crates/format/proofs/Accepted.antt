@@ -4,6 +4,8 @@ use mathlib.Core.Path.{_≡_, refl, sym, ap, _∙_}
 use mathlib.Core.Option.{Option, none, some}
 use mathlib.Core.List.{List}
 use Prim.Native.Nat.{ℕ, _≤_}
+use Rattle.format.specs.Seq.{All}
+use Rattle.format.specs.Page.{Byte}
 use Rattle.format.specs.Image.{keyCount, keysOf, liftOf, versionOf}
 use Rattle.format.specs.Header.{versionFor}
 use Rattle.format.specs.Question.{firstNo, imageQuestions, outcome, returns, settle}
@@ -34,9 +36,9 @@ returned-same img n e = go (firstNo (imageQuestions img)) refl e
     go none d k = rw d
     go (some m) d k = cc
 
-pub returned-of-yes : (img : List ℕ) → AllYes img → check img ≡ returns (keyCount img)
+pub accepted-of-yes : (img : List ℕ) → All Byte img → AllYes img → Accepted img
 unfolding check settle outcome
-returned-of-yes img e = rw e
+accepted-of-yes img a e = record { bytes = a; returned = rw e }
 
 pub record Facts (img : List ℕ) : Type 0 where
   pub all-yes : AllYes img

@@ -160,6 +160,7 @@ pub record AtRank (l : List ℕ) (y : ℕ) : Type 0 where
   pub within : rankIn l y < length l
   pub here : getD l (rankIn l y) 0 ≡ y
 
+-- where a member stands
 record Index (l : List ℕ) (y : ℕ) : Type 0 where
   n : ℕ
   within : n < length l
@@ -171,6 +172,7 @@ index-of (e ∷ l) y m =
     ⊎-elim (λ (d : y ≡ e). record { n = 0; within = omega arith; here = sym d })
     (λ (t : List·Memᴰ y l). let r = index-of l y t in record { n = suc (r .n); within = omega (arith, r .within); here = r .here }) (List·Memᴰ·cases-cons m)
 
+-- its place is its rank
 pub at-rank : (l : List ℕ) (y : ℕ) → Asc l → List·Memᴰ y l → AtRank l y
 at-rank l y a m =
     let i = index-of l y m in
@@ -187,6 +189,7 @@ isIn-mem x (y ∷ l) m = ⊎-elim (λ (e : x ≡ y). rw (eq-eqb x y e)) (λ (t :
     or-true true = refl
     or-true false = refl
 
+-- and a number that passes the test is a member
 pub mem-isIn : (x : ℕ) (l : List ℕ) → isIn x l ≡ true → List·Memᴰ x l
 unfolding isIn
 mem-isIn x [] h = absurd (let z : _≡_ {A = ℕ} 0 1 = cc in omega arith)

@@ -28,7 +28,7 @@ use Rattle.format.proofs.Cells.{within-range}
 use Rattle.format.proofs.HeaderBytes.{version-some}
 use Rattle.format.proofs.Checked.{no-lift}
 use Rattle.format.proofs.Forth.{imaged}
-use Rattle.format.proofs.Accepted.{Facts, facts, returned-of-yes}
+use Rattle.format.proofs.Accepted.{Facts, accepted-of-yes, facts}
 
 returns-same : (m n : ℕ) → _≡_ {A = Outcome ℕ} (returns m) (returns n) → m ≡ n
 returns-same m n e = cc
@@ -142,7 +142,7 @@ image-for lift list small ad w =
     let q = of-writable (woven list) w in
     let i = imaged lift (woven list) small (of-ascending (woven list) (q .1)) (woven-fits list) (q .0) in
     record {
-      image = record { accepted = record { bytes = i .bytes; returned = returned-of-yes _ (i .is-accepted) }; its-list = ap unwoven (i .list) ∙ unwoven-back list ad };
+      image = record { accepted = accepted-of-yes _ (i .bytes) (i .is-accepted); its-list = ap unwoven (i .list) ∙ unwoven-back list ad };
       version-is = i .version;
       lift-is = i .its-lift;
     }

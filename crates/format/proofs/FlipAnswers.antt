@@ -29,7 +29,7 @@ use Rattle.format.proofs.Jobs.{lift-range}
 use Rattle.format.proofs.Bytes.{twoBytes-back, zero-all}
 use Rattle.format.proofs.HeaderBytes.{length-counts, length-start, length-two, start-same, version-some}
 use Rattle.format.proofs.Checked.{lift-is, lift-number, mark-right, no-lift}
-use Rattle.format.proofs.Accepted.{facts, returned-of-yes, returned-same}
+use Rattle.format.proofs.Accepted.{accepted-of-yes, facts, returned-same}
 use Rattle.format.proofs.Forth.{bandsOf-row, imaged}
 use Rattle.format.proofs.Exact.{kind-of}
 use Rattle.format.proofs.Flips.{flipped-bytes, number-other, part-before, single-flip}
@@ -163,7 +163,7 @@ module _ (img : List ℕ) (i y : ℕ) (ia : Accepted img) (e : isLiftByte img i 
       other-lift (liftOf img) n (keysOf img) (set img i y) (sym (f .version) ∙ version-a ∙ sym (version-some n (number .0))) (take-set-le 40 img i y (place .0) ∙ ap (take 40) (sym (f .back)))
       (sym (twoBytes-back (set img i y) 40 (omega (arith, length-set img i y, f .questions .header .long)) bytes)) (drop-set-lt 42 img i y (omega (arith, place)) ∙ ap (drop 42) (sym (f .back))) in
       record {
-        accepted = rw is (record { bytes = m .bytes; returned = returned-of-yes _ (m .is-accepted) });
+        accepted = rw is (accepted-of-yes _ (m .bytes) (m .is-accepted));
         its-list = ap unwoven (ap keysOf is ∙ m .list);
       }
 

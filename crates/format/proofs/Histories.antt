@@ -12,12 +12,12 @@ use borrow.Author.Tests.{eq-eqb, ne-eqb, eqb-true, le-ltb, ltb-true}
 use lib.ListN.{length, getD, set, getD-replicate, length-append, length-replicate, length-set}
 use lib.Seq.{getD-set-same, getD-set-other}
 use Rattle.format.specs.Seq.{All, consIf, isIn, rankIn, select}
-use Rattle.format.specs.Key.{keyOf}
+use Rattle.format.specs.Key.{holderOf, keyOf}
 use Rattle.format.specs.Page.{Byte}
 use Rattle.format.specs.Image.{keyCount, keysOf}
 use Rattle.format.specs.Question.{Outcome, Yes, firstNo, imageQuestions, refused, returns}
 use Rattle.format.specs.Scan.{gateQuestions, isLane, lanePlace, largest32, liftFits, opened, recordsAfter, recordsAfterScan, recordsLength, scan, scanQuestions}
-use Rattle.format.specs.History.{Card, History, Images, Opening, Recorded, afterCard, afterCards, atRank, inLane, noRecords, openingOf, openings, recordAfter, scanOf}
+use Rattle.format.specs.History.{Card, History, Images, Opening, Recorded, afterCard, afterCards, atRank, inLane, keyOn, noRecords, openingOf, openings, recordAfter, scanOf}
 use Rattle.format.proofs.Lists.{all-left, all-right}
 use Rattle.format.proofs.Questions.{none-of-yes, range-of, yes-of-none}
 use Rattle.format.proofs.Members.{rank-le, select-append}
@@ -64,13 +64,14 @@ module _ (fits : Bool) (keys : ℕ) (records : List ℕ) (lane : ℕ) (listed : 
   }
 
 -- a scan that opens: each of its questions got a yes, and its rank
-pub record Opens (lift : ℕ) (img records : List ℕ) (lane key time lockout rank : ℕ) : Type 0 where
+pub record ScanYes (lift : ℕ) (img records : List ℕ) (lane key time lockout rank : ℕ) : Type 0 where
   pub image-yes : firstNo (imageQuestions img) ≡ none
   pub scan-yes : All Yes (scanQuestions lift img records lane key time lockout)
   pub rank-is : rankIn (keysOf img) key ≡ rank
 
+-- from its outcome
 pub opens-facts : (lift : ℕ) (img records : List ℕ) (lane holder slot time lockout rank : ℕ) → scan lift img records lane holder slot time lockout ≡ returns rank
-    → Opens lift img records lane (keyOf holder slot) time lockout rank
+    → ScanYes lift img records lane (keyOf holder slot) time lockout rank
 unfolding scan
 opens-facts lift img records lane holder slot time lockout rank e =
     let key = keyOf holder slot in
@@ -83,21 +84,24 @@ opens-facts lift img records lane holder slot time lockout rank e =
     }
 
 -- what is known of an opening
-pub record Opened (n : ℕ) (records : List ℕ) (rank lane : ℕ) : Type 0 where
-  pub rank-small : rank < n
-  pub size : length records ≡ n + 8
-  pub lane-right : isLane lane ≡ true
+pub record OpeningFits (n : ℕ) (records : List ℕ) (rank lane : ℕ) : Type 0 where
+  rank-small : rank < n
+  size : length records ≡ n + 8
+  lane-right : isLane lane ≡ true
 
-module _ {lift : ℕ} {img records : List ℕ} {lane key time lockout rank : ℕ} (o : Opens lift img records lane key time lockout rank) where
+module _ {lift : ℕ} {img records : List ℕ} {lane key time lockout rank : ℕ} (o : ScanYes lift img records lane key time lockout rank) where
+  -- 36, 29 and 21 to 24 got a yes
   gate-yes : All Yes (gateQuestions (liftFits lift img) (keyCount img) records lane (isIn key (keysOf img)) time)
   unfolding scanQuestions
   gate-yes = all-left Yes (gateQuestions (liftFits lift img) (keyCount img) records lane (isIn key (keysOf img)) time) _ (o .scan-yes)
 
+  -- the admission is listed
   pub opens-listed : isIn key (keysOf img) ≡ true
   unfolding gateQuestions
   opens-listed = gate-yes .1 .1 .1 .1 .1 .0
 
-  pub opened-facts : All Byte img → Opened (keyCount img) records rank lane
+  -- its rank, the records and the lane
+  pub opened-facts : All Byte img → OpeningFits (keyCount img) records rank lane
   opened-facts a =
       let fit = records-fit (liftFits lift img) (keyCount img) records lane (isIn key (keysOf img)) time gate-yes in
       record {
@@ -108,12 +112,12 @@ module _ {lift : ℕ} {img records : List ℕ} {lane key time lockout rank : ℕ
 
 -- ---- the records after an opening
 
-module _ (n : ℕ) (records : List ℕ) (rank lane time : ℕ) (o : Opened n records rank lane) where
+module _ (n : ℕ) (records : List ℕ) (rank lane time : ℕ) (o : OpeningFits n records rank lane) where
   abbrev after : List ℕ
   after = opened n records lane rank time
 
   -- as many as before
-  pub opened-size : length after ≡ length records
+  opened-size : length after ≡ length records
   unfolding opened
   opened-size = length-set (set records rank (time + 1)) (lanePlace n lane) (getD records (lanePlace n lane) 0 + 1) ∙ length-set records rank (time + 1)
 
@@ -161,14 +165,14 @@ module _ (n : ℕ) where
   one-scan records size card a =
       go (scanOf records card) (λ rank e. opened-facts (opens-facts (card .lift) (card .image) records (card .lane) (card .holder) (card .slot) (card .time) (card .lockout) rank e) a)
     where
-      go : (o : Outcome ℕ) → ((rank : ℕ) → o ≡ returns rank → Opened (keyCount (card .image)) records rank (card .lane))
+      go : (o : Outcome ℕ) → ((rank : ℕ) → o ≡ returns rank → OpeningFits (keyCount (card .image)) records rank (card .lane))
           → Recorded n records (openingOf o card) (recordsAfter o (keyCount (card .image)) records (card .lane) (card .time))
       go (refused k) f = unfold openingOf recordsAfter recordAfter atRank inLane select in record { size = refl; lanes = λ l h. omega arith; ranks = λ r h. refl }
       go (returns rank) f =
           unfold openingOf recordsAfter atRank inLane select in
           let same : keyCount (card .image) ≡ n = omega (arith, f rank refl .size, size) in
-          let o : Opened n records rank (card .lane) = rw same at (f rank refl) in
-          let opening : Opening = record { rank = rank; lane = card .lane; time = card .time } in
+          let o : OpeningFits n records rank (card .lane) = rw same at (f rank refl) in
+          let opening : Opening = record { rank = rank; lane = card .lane; time = card .time; holder = holderOf (keyOn card) } in
           rw same record {
             size = opened-size n records rank (card .lane) (card .time) o;
             lanes = λ l h. opened-lane n records rank (card .lane) (card .time) o l h ∙ ap (getD records (lanePlace n l) 0 +_) (length-one (eqb (card .lane) l) opening);

@@ -1,7 +1,7 @@
 -- Holders over any history of scans of one image: a holder's record is told by the openings of the holder's admissions, and a scan opens exactly when it should.
 -- Assumes nothing.
 use mathlib.Core.Path.{_≡_, refl, sym, ap, subst, _∙_}
-use mathlib.Core.Bool.{Bool, true, false, _||_, _&&_, cond}
+use mathlib.Core.Bool.{Bool, true, false, _||_, _&&_}
 use mathlib.Core.Option.{some}
 use mathlib.Core.List.{List, [], _∷_, _++_}
 use Prim.Native.Nat.{ℕ, _+_, _-_, _≤_}
@@ -15,16 +15,16 @@ use Rattle.format.specs.Page.{Byte}
 use Rattle.format.specs.Image.{keyCount, keysOf}
 use Rattle.format.specs.Question.{Outcome, Yes, firstNo, imageQuestions, isZero, outcome, refused, returns, settle}
 use Rattle.format.specs.Scan.{gateQuestions, holderRecord, liftFits, lockoutOver, lockoutQuestions, opened, recordsAfter, recordsAfterScan, recordsLength, scan, scanQuestions, timeRight}
-use Rattle.format.specs.History.{Card, Opening, afterCard, afterCards, noRecords, openingOf, openings, recordAfter, scanOf}
-use Rattle.format.specs.Holders.{Asked24, Bring, HolderRecorded, Holders, Rising, hasRun, holderAt, keyOn, ofHolder, opens}
+use Rattle.format.specs.History.{Card, Opening, afterCard, afterCards, keyOn, noRecords, openingOf, openings, recordAfter, scanOf}
+use Rattle.format.specs.Holders.{Asked24, Bring, Holders, NonDecreasing, Told, hasRun, ofHolder, opens, openingsSince, recordsSince}
 use Rattle.format.proofs.Lists.{all-left, all-right}
 use Rattle.format.proofs.Questions.{after-no, after-yes, none-of-yes}
 use Rattle.format.proofs.Members.{select-append}
 use Rattle.format.proofs.Checked.{checked}
 use Rattle.format.proofs.Back.{listed}
 use Rattle.format.proofs.Descent.{mem-isIn}
-use Rattle.format.proofs.Histories.{Opens, opened-facts, opened-rank, opens-facts, opens-listed, record-append, record-one}
-use Rattle.format.proofs.Holders.{Renewed, holder-after, holder-here, holder-zeros}
+use Rattle.format.proofs.Histories.{ScanYes, opened-facts, opened-rank, opens-facts, opens-listed, record-append, record-one}
+use Rattle.format.proofs.Holders.{Renewed, holder-after, holder-zeros}
 
 -- ---- one scan
 
@@ -37,7 +37,8 @@ right-le last time h =
       | no z ↦ leb-true last (time + 1) (sym (ap (_|| leb last (time + 1)) (ne-eqb last 0 z)) ∙ h)
     ]
 
-module _ {lift : ℕ} {img records : List ℕ} {lane key time lockout rank : ℕ} (o : Opens lift img records lane key time lockout rank) (a : All Byte img) where
+module _ {lift : ℕ} {img records : List ℕ} {lane key time lockout rank : ℕ} (o : ScanYes lift img records lane key time lockout rank) (a : All Byte img) where
+  -- what it does to records
   renewed : Renewed img records (opened (keyCount img) records lane rank time) key time
   unfolding scanQuestions lockoutQuestions
   renewed =
@@ -49,60 +50,60 @@ module _ {lift : ℕ} {img records : List ℕ} {lane key time lockout rank : ℕ
         ranks = λ r h. rw (o .rank-is) (opened-rank (keyCount img) records rank lane time (opened-facts o a) r (omega (arith, keys .count-is)));
       }
 
-  -- the opening is the key's holder's
-  whose : (holder : ℕ) → eqb (holderAt img rank) holder ≡ eqb (holderOf key) holder
-  whose holder = ap (λ (r : ℕ). eqb (holderAt img r) holder) (sym (o .rank-is)) ∙ ap (λ (h : ℕ). eqb h holder) (holder-here renewed)
-
-rising-one : (t : Bool) (h : ℕ) (o : Opening) → (t ≡ true → h ≤ o .time) → Rising h (consIf t o [])
+-- of one opening or none
+times-one : (t : Bool) (h : ℕ) (o : Opening) → (t ≡ true → h ≤ o .time) → NonDecreasing h (consIf t o [])
 unfolding consIf
-rising-one true h o f = (f refl, tt)
-rising-one false h o f = tt
+times-one true h o f = (f refl, tt)
+times-one false h o f = tt
 
+-- after one scan
 one-card : (card : Card) → All Byte (card .image) → (records : List ℕ) (holder : ℕ)
-    → HolderRecorded (card .image) records (openingOf (scanOf records card) card) (afterCard records card) holder
+    → Told (holderRecord (card .image) records holder) (ofHolder holder (openingOf (scanOf records card) card)) (holderRecord (card .image) (afterCard records card) holder)
 unfolding recordsAfterScan
 one-card card a records holder = go (scanOf records card) (λ rank e. opens-facts (card .lift) (card .image) records (card .lane) (card .holder) (card .slot) (card .time) (card .lockout) rank e)
   where
-    go : (o : Outcome ℕ) → ((rank : ℕ) → o ≡ returns rank → Opens (card .lift) (card .image) records (card .lane) (keyOn card) (card .time) (card .lockout) rank)
-        → HolderRecorded (card .image) records (openingOf o card) (recordsAfter o (keyCount (card .image)) records (card .lane) (card .time)) holder
-    go (refused k) f = unfold openingOf recordsAfter ofHolder select recordAfter in record { told = refl; rising = tt }
+    go : (o : Outcome ℕ) → ((rank : ℕ) → o ≡ returns rank → ScanYes (card .lift) (card .image) records (card .lane) (keyOn card) (card .time) (card .lockout) rank)
+        → Told (holderRecord (card .image) records holder) (ofHolder holder (openingOf o card)) (holderRecord (card .image) (recordsAfter o (keyCount (card .image)) records (card .lane) (card .time)) holder)
+    go (refused k) f = unfold openingOf recordsAfter ofHolder select recordAfter in record { record-is = refl; times = tt }
     go (returns rank) f =
         unfold openingOf recordsAfter ofHolder select in
-        let o = f rank refl in
-        let opening : Opening = record { rank = rank; lane = card .lane; time = card .time } in
-        let w = whose o a holder in
-        let own : eqb (holderAt (card .image) rank) holder ≡ true → holderRecord (card .image) records holder - 1 ≤ card .time =
-        λ t. let e : holderOf (keyOn card) ≡ holder = eqb-true (holderOf (keyOn card)) holder (sym w ∙ t) in
-        let le : holderRecord (card .image) records (holderOf (keyOn card)) ≤ card .time + 1 = renewed o a .before in
-        omega (arith, le, ap (holderRecord (card .image) records) e) in
+        let o = renewed (f rank refl) a in
+        let opening : Opening = record { rank = rank; lane = card .lane; time = card .time; holder = holderOf (keyOn card) } in
+        let x = holderRecord (card .image) records holder in
+        let right : eqb (holderOf (keyOn card)) holder ≡ true → holderRecord (card .image) records holder - 1 ≤ card .time =
+        λ t. omega (arith, o .before, ap (holderRecord (card .image) records) (eqb-true (holderOf (keyOn card)) holder t)) in
         record {
-          told = holder-after (renewed o a) holder ∙ ap (λ (t : Bool). cond t (card .time + 1) (holderRecord (card .image) records holder)) (sym w) ∙ record-one (eqb (holderAt (card .image) rank) holder) (holderRecord (card .image) records holder) opening;
-          rising = rising-one (eqb (holderAt (card .image) rank) holder) (holderRecord (card .image) records holder - 1) opening own;
+          record-is = holder-after o holder ∙ record-one (eqb (holderOf (keyOn card)) holder) x opening;
+          times = times-one (eqb (holderOf (keyOn card)) holder) (x - 1) opening right;
         }
 
 -- ---- any history
 
-rising-append : (h : ℕ) (os ps : List Opening) → Rising (h - 1) os → Rising (recordAfter h os - 1) ps → Rising (h - 1) (os ++ ps)
+-- of openings after others
+times-append : (h : ℕ) (os ps : List Opening) → NonDecreasing (h - 1) os → NonDecreasing (recordAfter h os - 1) ps → NonDecreasing (h - 1) (os ++ ps)
 unfolding recordAfter
-rising-append h [] ps r s = s
-rising-append h (o ∷ os) ps r s =
+times-append h [] ps r s = s
+times-append h (o ∷ os) ps r s =
     let e : o .time + 1 - 1 ≡ o .time = omega arith in
-    (r .0, subst (λ (t : ℕ). Rising t (os ++ ps)) e (rising-append (o .time + 1) os ps (subst (λ (t : ℕ). Rising t os) (sym e) (r .1)) s))
+    (r .0, subst (λ (t : ℕ). NonDecreasing t (os ++ ps)) e (times-append (o .time + 1) os ps (subst (λ (t : ℕ). NonDecreasing t os) (sym e) (r .1)) s))
 
-all-cards : (img : List ℕ) → All Byte img → (records : List ℕ) (cards : List Card) → Bring img cards → (holder : ℕ) → HolderRecorded img records (openings records cards) (afterCards records cards) holder
+-- after all cards
+all-cards : (img : List ℕ) → All Byte img → (records : List ℕ) (cards : List Card) → Bring img cards → (holder : ℕ)
+    → Told (holderRecord img records holder) (ofHolder holder (openings records cards)) (holderRecord img (afterCards records cards) holder)
 unfolding afterCards openings ofHolder
-all-cards img a records [] b holder = unfold select recordAfter in record { told = refl; rising = tt }
+all-cards img a records [] b holder = unfold select recordAfter in record { record-is = refl; times = tt }
 all-cards img a records (card ∷ cards) b holder =
     let first = openingOf (scanOf records card) card in
     let later = openings (afterCard records card) cards in
-    let h = holderRecord img records holder in
-    let one : HolderRecorded img records (openingOf (scanOf records card) card) (afterCard records card) holder =
-    subst (λ (i : List ℕ). HolderRecorded i records (openingOf (scanOf records card) card) (afterCard records card) holder) (b .0) (one-card card (subst (All Byte) (sym (b .0)) a) records holder) in
+    let x = holderRecord img records holder in
+    let one : Told (holderRecord img records holder) (ofHolder holder (openingOf (scanOf records card) card)) (holderRecord img (afterCard records card) holder) =
+    subst (λ (i : List ℕ). Told (holderRecord i records holder) (ofHolder holder (openingOf (scanOf records card) card)) (holderRecord i (afterCard records card) holder)) (b .0)
+    (one-card card (subst (All Byte) (sym (b .0)) a) records holder) in
     let rest = all-cards img a (afterCard records card) cards (b .1) holder in
-    let both = select-append (λ o. eqb (holderAt img (o .rank)) holder) first later in
+    let both = select-append (λ o. eqb (o .holder) holder) first later in
     record {
-      told = rest .told ∙ ap (λ (x : ℕ). recordAfter x (ofHolder img holder later)) (one .told) ∙ sym (ap (recordAfter h) both ∙ record-append h (ofHolder img holder first) (ofHolder img holder later));
-      rising = subst (Rising (h - 1)) (sym both) (rising-append h (ofHolder img holder first) (ofHolder img holder later) (one .rising) (subst (λ (x : ℕ). Rising (x - 1) (ofHolder img holder later)) (one .told) (rest .rising)));
+      record-is = rest .record-is ∙ ap (λ (y : ℕ). recordAfter y (ofHolder holder later)) (one .record-is) ∙ sym (ap (recordAfter x) both ∙ record-append x (ofHolder holder first) (ofHolder holder later));
+      times = subst (NonDecreasing (x - 1)) (sym both) (times-append x (ofHolder holder first) (ofHolder holder later) (one .times) (subst (λ (y : ℕ). NonDecreasing (y - 1) (ofHolder holder later)) (one .record-is) (rest .times)));
     }
 
 -- ---- when a scan opens
@@ -127,10 +128,12 @@ opens-later false false rank f = refl
 
 -- where each question before 24 gets a yes, 24 and 26 decide
 module _ (fits : Bool) (n : ℕ) (records : List ℕ) (lane time : ℕ) (y : All Yes (gateQuestions fits n records lane true time)) where
+  -- an admission that is not listed gets 24
   not-listed : firstNo (gateQuestions fits n records lane false time) ≡ some 24
   unfolding gateQuestions firstNo
   not-listed = rw (y .0, y .1 .0, y .1 .1 .0, y .1 .1 .1 .0, y .1 .1 .1 .1 .0)
 
+  -- 24, then 25 and 26
   opens-gate : (t : Bool) (last lockout rank : ℕ) → opens (outcome (firstNo (gateQuestions fits n records lane t time ++ lockoutQuestions last time lockout)) rank) ≡ (t && lockoutOver last time lockout)
   unfolding lockoutQuestions outcome opens
   opens-gate true last lockout rank =
@@ -138,6 +141,7 @@ module _ (fits : Bool) (n : ℕ) (records : List ℕ) (lane time : ℕ) (y : All
       ∙ opens-later (timeRight last time) (lockoutOver last time lockout) rank (over-right last time lockout)
   opens-gate false last lockout rank = ap (λ o. opens (outcome o rank)) (after-no (gateQuestions fits n records lane false time) (lockoutQuestions last time lockout) 24 not-listed)
 
+-- the scan
 opens-is : (records : List ℕ) (card : Card) → Asked24 records card
     → opens (scanOf records card) ≡ (isIn (keyOn card) (keysOf (card .image)) && lockoutOver (holderRecord (card .image) records (holderOf (keyOn card))) (card .time) (card .lockout))
 unfolding scan scanQuestions settle
@@ -162,26 +166,26 @@ over-run (o ∷ p ∷ os) time lockout = over-run (p ∷ os) time lockout
 
 -- ---- the statement
 
-module _ (img : List ℕ) (a : All Byte img) where
-  zeros : List ℕ
-  zeros = noRecords (keyCount img)
+-- no holder has a record yet
+zeros-record : (img : List ℕ) (holder : ℕ) → holderRecord img (noRecords (keyCount img)) holder ≡ 0
+unfolding noRecords
+zeros-record img holder = holder-zeros img (recordsLength (keyCount img)) holder
 
-  no-record : (holder : ℕ) → holderRecord img zeros holder ≡ 0
-  unfolding zeros noRecords
-  no-record holder = holder-zeros img (recordsLength (keyCount img)) holder
+-- from a buffer of zeros
+told-zeros : (img : List ℕ) → All Byte img → (cards : List Card) → Bring img cards → (holder : ℕ) → Told 0 (openingsSince img cards holder) (holderRecord img (recordsSince img cards) holder)
+told-zeros img a cards b holder =
+    subst (λ (x : ℕ). Told x (openingsSince img cards holder) (holderRecord img (recordsSince img cards) holder)) (zeros-record img holder) (all-cards img a (noRecords (keyCount img)) cards b holder)
 
-  told-zeros : (cards : List Card) → Bring img cards → (holder : ℕ) → holderRecord img (afterCards zeros cards) holder ≡ recordAfter 0 (ofHolder img holder (openings zeros cards))
-  told-zeros cards b holder = all-cards img a zeros cards b holder .told ∙ ap (λ (x : ℕ). recordAfter x (ofHolder img holder (openings zeros cards))) (no-record holder)
-
-  pub holders : Holders img
-  unfolding zeros recordAfter
-  holders = record {
-    from-zeros = λ cards b holder. (told-zeros cards b holder, subst (λ (x : ℕ). Rising (x - 1) (ofHolder img holder (openings zeros cards))) (no-record holder) (all-cards img a zeros cards b holder .rising));
-    recorded = λ records cards b holder. all-cards img a records cards b holder;
-    lockout-not-restarted = λ records cards b holder none-opens. all-cards img a records cards b holder .told ∙ ap (recordAfter (holderRecord img records holder)) none-opens;
-    opens-exactly = λ cards b card e y.
-        opens-is (afterCards zeros cards) card y
-        ∙ ap (λ (i : List ℕ). isIn (keyOn card) (keysOf i) && lockoutOver (holderRecord i (afterCards zeros cards) (holderOf (keyOn card))) (card .time) (card .lockout)) e
-        ∙ ap (isIn (keyOn card) (keysOf img) &&_)
-        (ap (λ (x : ℕ). lockoutOver x (card .time) (card .lockout)) (told-zeros cards b (holderOf (keyOn card))) ∙ over-run (ofHolder img (holderOf (keyOn card)) (openings zeros cards)) (card .time) (card .lockout));
-  }
+pub holders : Holders
+unfolding recordAfter
+holders img a = record {
+  from-zeros = told-zeros img a;
+  recorded = all-cards img a;
+  lockout-not-restarted = λ records cards b holder none-opens. all-cards img a records cards b holder .record-is ∙ ap (recordAfter (holderRecord img records holder)) none-opens;
+  opens-exactly = λ cards b card e y.
+      let key = keyOn card in
+      opens-is (recordsSince img cards) card y
+      ∙ ap (λ (i : List ℕ). isIn key (keysOf i) && lockoutOver (holderRecord i (recordsSince img cards) (holderOf key)) (card .time) (card .lockout)) e
+      ∙ ap (isIn key (keysOf img) &&_)
+      (ap (λ (x : ℕ). lockoutOver x (card .time) (card .lockout)) (told-zeros img a cards b (holderOf key) .record-is) ∙ over-run (openingsSince img cards (holderOf key)) (card .time) (card .lockout));
+}

@@ -2,7 +2,7 @@
 -- Assumes nothing.
 use mathlib.Core.Path.{_≡_, refl, sym, ap, _∙_}
 use mathlib.Core.Bool.{cond}
-use mathlib.Core.List.{List, [], _∷_, map, List·Memᴰ, Memᴰ·map}
+use mathlib.Core.List.{List, map, List·Memᴰ, Memᴰ·map}
 use Prim.Native.Nat.{ℕ, zero, suc, _+_, _≤_, _<_}
 use native.Mathlib.Omega.{arith}
 use native.Mathlib.Decide.{ℕ-discrete}
@@ -10,10 +10,9 @@ use lib.Dec.{eqb}
 use borrow.Author.Tests.{eq-eqb, ne-eqb, eqb-true}
 use lib.ListN.{length, getD, replicate}
 use Rattle.format.specs.Seq.{largest, rankIn}
-use Rattle.format.specs.Key.{gather, holderOf, unwoven}
-use Rattle.format.specs.Image.{keysOf, listOf}
+use Rattle.format.specs.Key.{holderOf}
+use Rattle.format.specs.Image.{keysOf}
 use Rattle.format.specs.Scan.{holderRecord, isHolders, keysOfHolder, largestRecord, recordOf}
-use Rattle.format.specs.Holders.{holderAt}
 use Rattle.format.proofs.Largest.{le-largest, map-agree, map-le}
 use Rattle.format.proofs.Trie.{Asc}
 use Rattle.format.proofs.Members.{mem-select, select-mem}
@@ -23,6 +22,7 @@ use Rattle.format.proofs.Descent.{at-rank}
 -- ---- a holder's keys
 
 module _ (img : List ℕ) (holder : ℕ) where
+  -- each is a listed key, and the holder's
   mem-holder : (key : ℕ) → List·Memᴰ key (keysOfHolder img holder) → List·Memᴰ key (keysOf img) × (holderOf key ≡ holder)
   unfolding keysOfHolder isHolders
   mem-holder key m = let (t, e) = select-mem (isHolders holder) key (keysOf img) m in (t, eqb-true (holderOf key) holder e)
@@ -34,16 +34,6 @@ module _ (img : List ℕ) (holder : ℕ) where
       le-largest (recordOf img records key) (map (recordOf img records) (keysOfHolder img holder))
       (Memᴰ·map (recordOf img records) (mem-select (isHolders holder) key (keysOf img) m (eq-eqb (holderOf key) holder e)))
 
--- the holder at a rank is the key's there
-holder-at : (img : List ℕ) (rank : ℕ) → holderAt img rank ≡ holderOf (getD (keysOf img) rank 0)
-unfolding holderAt listOf unwoven holderOf gather
-holder-at img rank = go (keysOf img) rank
-  where
-    go : (keys : List ℕ) (r : ℕ) → getD (unwoven keys) r (0, 0) .0 ≡ holderOf (getD keys r 0)
-    go [] r = refl
-    go (k ∷ keys) zero = refl
-    go (k ∷ keys) (suc r) = go keys r
-
 -- ---- an opening
 
 -- time + 1 at the rank of a listed key, the other records as they were; no record of its holder was above that
@@ -54,10 +44,12 @@ pub record Renewed (img records after : List ℕ) (key time : ℕ) : Type 0 wher
   pub ranks : (r : ℕ) → r < length (keysOf img) → getD after r 0 ≡ cond (eqb (rankIn (keysOf img) key) r) (time + 1) (getD records r 0)
 
 module _ {img records after : List ℕ} {key time : ℕ} (o : Renewed img records after key time) where
+  -- the key's own record
   own : recordOf img after key ≡ time + 1
   unfolding recordOf
   own = o .ranks (rankIn (keysOf img) key) (at-rank (keysOf img) key (o .asc) (o .listed) .within) ∙ cond-yes (eqb (rankIn (keysOf img) key) (rankIn (keysOf img) key)) _ _ (eq-eqb (rankIn (keysOf img) key) (rankIn (keysOf img) key) refl)
 
+  -- every other key's
   other : (k : ℕ) → List·Memᴰ k (keysOf img) → (key ≡ k → ⊥) → recordOf img after k ≡ recordOf img records k
   unfolding recordOf
   other k m ne =
@@ -67,6 +59,7 @@ module _ {img records after : List ℕ} {key time : ℕ} (o : Renewed img record
       ∙ cond-no (eqb (rankIn (keysOf img) key) (rankIn (keysOf img) k)) _ _
       (ne-eqb (rankIn (keysOf img) key) (rankIn (keysOf img) k) (λ e. ne (sym (b .here) ∙ ap (λ (r : ℕ). getD (keysOf img) r 0) e ∙ a .here)))
 
+  -- the record of the key's holder
   holder-renewed : holderRecord img after (holderOf key) ≡ time + 1
   unfolding holderRecord largestRecord
   holder-renewed =
@@ -78,16 +71,14 @@ module _ {img records after : List ℕ} {key time : ℕ} (o : Renewed img record
       ]) in
       omega (arith, up, record-le img (holderOf key) after key (o .listed) refl, own)
 
+  -- every other holder's
   holder-same : (holder : ℕ) → (holderOf key ≡ holder → ⊥) → holderRecord img after holder ≡ holderRecord img records holder
   unfolding holderRecord largestRecord
   holder-same holder ne =
       ap largest (map-agree (recordOf img after) (recordOf img records) (keysOfHolder img holder)
       (λ k m. let (t, e) = mem-holder img holder k m in other k t (λ d. ne (ap holderOf d ∙ e))))
 
-  -- the holder that opens is the one at the rank
-  pub holder-here : holderAt img (rankIn (keysOf img) key) ≡ holderOf key
-  holder-here = holder-at img (rankIn (keysOf img) key) ∙ ap holderOf (at-rank (keysOf img) key (o .asc) (o .listed) .here)
-
+  -- a holder's record after it
   pub holder-after : (holder : ℕ) → holderRecord img after holder ≡ cond (eqb (holderOf key) holder) (time + 1) (holderRecord img records holder)
   holder-after holder =
       elim (ℕ-discrete (holderOf key) holder) [

@@ -8,6 +8,7 @@ use mathlib.Core.List.{List, [], _∷_, _++_}
 use lib.Dec.{eqb}
 use lib.ListN.{length, getD, replicate}
 use Rattle.format.specs.Seq.{All, select}
+use Rattle.format.specs.Key.{holderOf, keyOf}
 use Rattle.format.specs.Page.{Byte}
 use Rattle.format.specs.Question.{Outcome, refused, returns}
 use Rattle.format.specs.Scan.{isLane, lanePlace, recordsAfterScan, recordsLength, scan}
@@ -24,6 +25,10 @@ pub record Card : Type 0 where
   pub lockout : ℕ
   pub lane : ℕ
 
+-- the key on the card
+abbrev pub keyOn : Card → ℕ
+keyOn card = keyOf (card .holder) (card .slot)
+
 abbrev pub scanOf : List ℕ → Card → Outcome ℕ
 scanOf records card = scan (card .lift) (card .image) records (card .lane) (card .holder) (card .slot) (card .time) (card .lockout)
 
@@ -37,16 +42,17 @@ afterCards records (card ∷ cards) = afterCards (afterCard records card) cards
 
 -- ---- openings
 
--- the rank that an opening records, its lane and its time
+-- the rank at which an opening is recorded, its lane and time, and the holder of the key on its card
 pub record Opening : Type 0 where
   pub rank : ℕ
   pub lane : ℕ
   pub time : ℕ
+  pub holder : ℕ
 
 -- the opening that a scan is, if it is not refused
 unfoldable pub openingOf : Outcome ℕ → Card → List Opening
 openingOf (refused n) card = []
-openingOf (returns rank) card = record { rank = rank; lane = card .lane; time = card .time } ∷ []
+openingOf (returns rank) card = record { rank = rank; lane = card .lane; time = card .time; holder = holderOf (keyOn card) } ∷ []
 
 -- the openings among the cards, in order
 unfoldable pub openings : List ℕ → List Card → List Opening
@@ -75,7 +81,7 @@ noRecords n = replicate (recordsLength n) 0
 pub record FromZeros (n : ℕ) (os : List Opening) (after : List ℕ) : Type 0 where
   -- each lane's count is the number of scans that opened in the lane
   pub lanes : (lane : ℕ) → isLane lane ≡ true → getD after (lanePlace n lane) 0 ≡ length (inLane lane os)
-  -- each record is 0 where its rank never opened, else the time of its last opening + 1
+  -- each record is 0 where no scan opened at its rank, else the time of the last that did + 1
   pub ranks : (rank : ℕ) → rank < n → getD after rank 0 ≡ recordAfter 0 (atRank rank os)
 
 -- what one that held records holds after some openings: each lane's count has grown by their number in the lane, and each record is told by its own

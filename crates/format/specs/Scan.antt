@@ -58,7 +58,7 @@ lockoutQuestions last time lockout = (25, timeRight last time) ∷ (26, lockoutO
 unfoldable pub liftFits : ℕ → List ℕ → Bool
 liftFits lift img = isZero (liftOf img) || eqb (liftOf img) lift
 
--- the record of a key: 0 for never, else the time of that admission's last opening + 1
+-- the record of a key: 0 where no scan of that admission opened, else the time of the last that did + 1
 unfoldable pub recordOf : List ℕ → List ℕ → ℕ → ℕ
 recordOf img records key = getD records (rankIn (keysOf img) key) 0
 

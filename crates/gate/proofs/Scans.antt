@@ -20,7 +20,7 @@ use Rattle.format.proofs.Questions.{after-no, after-yes, yes-of-none}
 use Rattle.format.proofs.Jobs.{no-of-refused, yes-of-returns}
 use Rattle.format.proofs.Keys.{holderOf-keyOf}
 use Rattle.format.specs.Exact.{Accepted}
-use Rattle.format.proofs.Accepted.{returned-of-yes}
+use Rattle.format.proofs.Accepted.{accepted-of-yes}
 use Rattle.format.proofs.Checked.{checked}
 use Rattle.format.proofs.Back.{listed as list-facts}
 use Rattle.format.proofs.Histories.{rank-below}
@@ -59,7 +59,7 @@ module _ (img : List ℕ) (holder slot : ℕ) where
     header-long = checked img image-yes .header .long
 
     pub image-accepted : All Byte img → Accepted img
-    image-accepted a = record { bytes = a; returned = returned-of-yes img image-yes }
+    image-accepted a = accepted-of-yes img a image-yes
 
   -- absent: not in the list
   off : lookup img holder slot ≡ returns absent → isIn key (keysOf img) ≡ false

@@ -77,7 +77,7 @@ fn below_end(records: &[u32], place: usize) -> bool
     records[place] < 4294967295
 }
 
-// 36, 29 and 21 to 24, of an accepted image: the number of the first that gets a no, 0 where none does.
+// 36, 29 and 21 to 24, of an image with a header: the number of the first that gets a no, 0 where none does.
 fn gate_refusal(image: &[u8], records: &[u32], lane: u32, lift: u32, listed: bool, time: u32) -> u8
     requires { ⌜ 64 ≤ length (now image) ⌝ }
     ensures { λ r. ⌜ refusalOf r ≡ firstNo (Scan.gateQuestions (Scan.liftFits lift (now (image .entry))) (keyCount (now (image .entry))) (now (records .entry)) lane listed time) ⌝ }
@@ -132,8 +132,8 @@ fn admit(
     Scanned::Opened(rank)
 }
 
-// Whether the admission opens in that lane of a gate of that lift, at that time, after the lockout since its holder's last opening under any slot. An
-// opening returns its rank, records time + 1 there and adds one to the lane's count; a refusal changes nothing.
+// Whether the admission opens in that lane of a gate of that lift, at that time, after the lockout since its holder's last opening under any listed slot.
+// An opening returns its rank, records time + 1 there and adds one to the lane's count; a refusal changes nothing.
 pub fn scan(
     image: &[u8],
     records: &mut [u32],

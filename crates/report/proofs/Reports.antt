@@ -21,7 +21,7 @@ use Rattle.format.specs.declared.Rectangle.{Rectangle}
 use Rattle.format.specs.Exact.{Accepted, InOrder, LongEnough, wholeSquare}
 use Rattle.format.proofs.Checked.{cond-yes, cond-no}
 use Rattle.format.proofs.Questions.{after-no}
-use Rattle.format.proofs.Accepted.{facts, returned-of-yes}
+use Rattle.format.proofs.Accepted.{accepted-of-yes, facts}
 use Rattle.format.proofs.Exact.{listing-is, listing-keys, whole-members}
 use Rattle.report.specs.Row.{fieldOf, Put}
 use Rattle.report.specs.Outcomes.{Reported}
@@ -69,11 +69,8 @@ module _ (img : List ℕ) (a : All Byte img) (short : length img ≤ 65536) (buf
       let f = facts img acc in
       le-leb (length (memberKeys img wholeSquare)) (length buffer) (omega (arith, ap length (whole-members img), f .keys .count-is, f .few))
 
-  accepted-yes : firstNo (imageQuestions img) ≡ none → Accepted img
-  accepted-yes d = record { bytes = a; returned = returned-of-yes img d }
-
   listed-all : firstNo (imageQuestions img) ≡ none → listing img wholeSquare buffer ≡ returns (length (memberKeys img wholeSquare))
-  listed-all d = let acc = accepted-yes d in listing-is img (facts img acc) wholeSquare in-order buffer (long-enough acc)
+  listed-all d = let acc = accepted-of-yes img a d in listing-is img (facts img acc) wholeSquare in-order buffer (long-enough acc)
 
   image-no : (m : ℕ) → firstNo (imageQuestions img) ≡ some m → (listing img wholeSquare buffer ≡ refused m) × (check img ≡ refused m)
   unfolding listing check settle
@@ -99,7 +96,7 @@ module _ (img : List ℕ) (a : All Byte img) (short : length img ≤ 65536) (buf
     where
       go : (o : Option ℕ) → firstNo (imageQuestions img) ≡ o → (n ≤ 4096) × (admissionsWord ++ fieldOf n 10 ++ rows 0 (take n (bufferAfterListing img wholeSquare buffer)) ≡ printed img)
       go none d =
-          let acc = accepted-yes d in
+          let acc = accepted-of-yes img a d in
           let f = facts img acc in
           let q : _≡_ {A = Outcome ℕ} (returns n) (returns (length (memberKeys img wholeSquare))) = sym e ∙ listed-all d in
           let size : n ≡ length (memberKeys img wholeSquare) = cc in

@@ -64,7 +64,7 @@ below : (k : tie.After-key-count) → k .before .before .before .before .before 
 below k =
     omega (arith, k .key-count .ensures .0, rank-small _ _ _ _ _ (is-listed (k .before .before .before .before)) (bytes k))
 
--- 36, 29 and 21 to 24 got a yes
+-- so the lane, the records and the time fit
 fit : (k : tie.After-key-count) → let s = k .before .before .before .before .before .before .before .before .before .before in
     RecordsFit (k .key-count .result) (s .args .records .now) (s .args .lane) (s .args .time)
 fit k = rw (k .key-count .ensures .0) (records-fit _ _ _ _ _ _ (yes-of-none _ (none-refused _ _ (k .before .before .gate-refusal2 .ensures) (k .before .if1 .left))))
