@@ -12,15 +12,13 @@ use Rattle.format.specs.Key.{holderOf}
 use Rattle.format.specs.Scan.{isHolders, largestRecord}
 use Rattle.format.specs.Seq.{isIn, rankIn}
 use Rattle.format.proofs.Levels.{prefixesAt, prefixes-asc}
-use Rattle.format.proofs.Members.{rank-le}
-use Rattle.pages.proofs.Counts.{links-count, links-few}
 use Rattle.pages.proofs.Pages.{bytes, checked}
 use Rattle.subtries.specs.Subtrie.{asBit, setBit, setOf}
 use Rattle.subtries.proofs.Next.{rank-run}
 use Rattle.subtries.proofs.Sets.{bit-small}
 use Rattle.walk.specs.Walk.{Walking, membersBetween}
 use Rattle.walk.proofs.Chains.{under-split}
-use Rattle.walk.proofs.Steps.{none-here, opening-on, walking-off, walking-on}
+use Rattle.walk.proofs.Steps.{link-small, none-here, opening-on, walking-off, walking-on}
 use Rattle.walk.proofs.Walked.{under}
 use Rattle.holder.specs.Below.{OwnPair, belowRecord, pairRecord}
 use Rattle.holder.proofs.Records.{below-is, own-of, record-append, record-none}
@@ -82,10 +80,6 @@ walking-at {img} {b} {set} {first} {x} s v h =
           ∙ sym (rank-run l (16 * x) v (prefixes-asc img (bytes (s .ready)) (checked (s .ready)) (s .ready .some) (4 * b)));
     }
 
--- a band has few out-links
-pub link-few : {img : List ℕ} {b set link x v : ℕ} → Walking img b set link x v → link < 65536
-link-few {img} {b} {set} {link} {x} {v} s = omega (arith, s .link-is, rank-le (prefixesAt img (4 * b)) (16 * x + v), links-count (s .ready) b (s .from) (s .to), links-few (s .ready) b)
-
 -- ---- one ending
 
 module _ {img : List ℕ} {b set link x v : ℕ} (s : Walking img b set link x v) (h : v < 16) (records : List ℕ) (holder : ℕ) where
@@ -127,24 +121,24 @@ module _ {img : List ℕ} {b set link x v : ℕ} (s : Walking img b set link x v
   by-bits zero k p q =
       record {
         is = both ∙ omega (arith, ending-off s (omega arith) records holder p, ending-off (walking-off s (omega arith) p) (omega arith) records holder q);
-        own = record { small = k; few = link-few s; first = λ n. absurd (n refl); second = λ e. absurd (omega arith) };
+        own = record { small = k; few = link-small s; first = λ n. absurd (n refl); second = λ e. absurd (omega arith) };
       }
   by-bits (suc zero) k p q =
       let w = walking-off s (omega arith) p in
       record {
         is = both ∙ omega (arith, ending-off s (omega arith) records holder p, ending-on w (omega arith) records holder q);
-        own = record { small = k; few = link-few s; first = λ n. own-of (opening-on w (omega arith) q) second; second = λ e. absurd (omega arith) };
+        own = record { small = k; few = link-small s; first = λ n. own-of (opening-on w (omega arith) q) second; second = λ e. absurd (omega arith) };
       }
   by-bits (suc (suc zero)) k p q =
       record {
         is = both ∙ omega (arith, ending-on s (omega arith) records holder p, ending-off (walking-on s (omega arith) p) (omega arith) records holder q);
-        own = record { small = k; few = link-few s; first = λ n. own-of (opening-on s (omega arith) p) first; second = λ e. absurd (omega arith) };
+        own = record { small = k; few = link-small s; first = λ n. own-of (opening-on s (omega arith) p) first; second = λ e. absurd (omega arith) };
       }
   by-bits (suc (suc (suc zero))) k p q =
       let w = walking-on s (omega arith) p in
       record {
         is = both ∙ ap₂ max (ending-on s (omega arith) records holder p) (ending-on w (omega arith) records holder q);
-        own = record { small = k; few = link-few s; first = λ n. own-of (opening-on s (omega arith) p) first; second = λ e. own-of (opening-on w (omega arith) q) second };
+        own = record { small = k; few = link-small s; first = λ n. own-of (opening-on s (omega arith) p) first; second = λ e. own-of (opening-on w (omega arith) q) second };
       }
   by-bits (suc (suc (suc (suc n)))) k p q = absurd (omega arith)
 

@@ -16,14 +16,14 @@ use Rattle.pages.specs.Page.{Ready}
 use Rattle.subtries.specs.Spot.{rootPrefix}
 use Rattle.subtries.specs.Subtrie.{SubtrieRead}
 use Rattle.walk.specs.Walk.{Walking}
-use Rattle.walk.proofs.Steps.{members-same, walking-start}
+use Rattle.walk.proofs.Steps.{link-small, members-same, walking-start}
 use Rattle.walk.proofs.Walked.{under}
 use Rattle.walk.proofs.Whole.{opening-start, passing-whole}
 use Rattle.holder.specs.declared.Pair.{Pair}
 use Rattle.holder.specs.Below.{Own, PairRead, belowRecord, ownEnding, pairRecord}
 use Rattle.holder.proofs.Records.{below-is, own-of, record-append, record-none}
 use Rattle.holder.proofs.Endings.{has-bits, own-ending-few, own-next, two-pairs}
-use Rattle.holder.proofs.Pairs.{PairRight, link-few, pair-right, walking-at}
+use Rattle.holder.proofs.Pairs.{PairRight, pair-right, walking-at}
 
 module _ {img : List ℕ} {holder number root set first : ℕ} (own : Own img holder number root) (h : number ≤ 8) (s : SubtrieRead img number (rootPrefix img number root) set first) where
   -- its endings, from the first on
@@ -32,7 +32,7 @@ module _ {img : List ℕ} {holder number root set first : ℕ} (own : Own img ho
 
   -- its first out-link's number is small
   pub first-few : first < 65536
-  first-few = link-few start
+  first-few = link-small start
 
   module _ (records : List ℕ) where
     -- the first pair that has the holder's bits, or the second

@@ -11,11 +11,13 @@ use lib.Dec.{ltb}
 use lib.ListN.{length}
 use Rattle.format.specs.Image.{keyCount, pageCount, pageNumber, pagesBefore, rootCount}
 use Rattle.format.specs.Question.{outLinksDue}
+use Rattle.format.specs.Seq.{rankIn}
 use Rattle.format.proofs.Accepted.{facts}
 use Rattle.format.proofs.Back.{pagesBefore-suc}
 use Rattle.format.proofs.Bytes.{number-small}
 use Rattle.format.proofs.Checked.{cond-yes, cond-no}
 use Rattle.format.proofs.Levels.{prefixesAt, prefixes-keys}
+use Rattle.format.proofs.Members.{rank-le}
 use Rattle.format.proofs.Walk.{roots-count}
 use Rattle.pages.specs.Page.{Ready}
 use Rattle.pages.proofs.Pages.{bytes, checked}
@@ -51,3 +53,7 @@ module _ {img : List ℕ} (r : Ready img) where
         | yes h ↦ omega (arith, cond-no (ltb b 8) (rootCount img (b + 1)) (keyCount img) (le-ltb b 8 h), checked r .header .few)
         | no h ↦ omega (arith, cond-yes (ltb b 8) (rootCount img (b + 1)) (keyCount img) (lt-ltb b 8 (omega arith)), number-small img (6 + 4 * (b + 1)) (bytes r))
       ]
+
+  -- a rank among a band's out-links is below 65,536, as their number is
+  pub rank-few : (b : ℕ) → 1 ≤ b → b ≤ 8 → (x : ℕ) → rankIn (prefixesAt img (4 * b)) x < 65536
+  rank-few b lo hi x = omega (arith, rank-le (prefixesAt img (4 * b)) x, links-count b lo hi, links-few b)

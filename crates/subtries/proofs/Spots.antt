@@ -25,8 +25,7 @@ use Rattle.pages.specs.Page.{Ready, PageRead}
 use Rattle.subtries.specs.Spot.{LevelStart, SpotAt, rootPrefix}
 use Rattle.subtries.specs.Subtrie.{asBit, setOf, levelSet, placeAfter, bitsAfter, startIn, StartsRight, SubtrieRead}
 use Rattle.pages.proofs.Pages.{bytes, checked, T-small}
-use Rattle.format.proofs.Members.{rank-le}
-use Rattle.pages.proofs.Counts.{links-count, links-few}
+use Rattle.pages.proofs.Counts.{rank-few}
 use Rattle.subtries.proofs.Subtries.{link-is, root-way, start₀, start₁, start₂, start₃}
 use Rattle.subtries.proofs.Next.{Gap, gap-first, gap-next, gap-rank, start-shift, rank-run}
 use Rattle.subtries.proofs.Levels.{level-next, level-room, read-all}
@@ -43,7 +42,7 @@ module _ {img : List ℕ} (r : Ready img) {b : ℕ} (lo : 1 ≤ b) (hi : b ≤ 8
   root-small = omega (arith, s .to, s .end-is, T-small r b (s .i), checked r .page b (s .i) lo hi (s .in-band) .few-roots)
 
   pub link-small : spot .link .0 < 65536
-  link-small = omega (arith, s .link-is, rank-le (prefixesAt img (4 * b)) (16 * rootPrefix img b (spot .root .0)), links-count r b lo hi, links-few r b)
+  link-small = omega (arith, s .link-is, rank-few r b lo hi (16 * rootPrefix img b (spot .root .0)))
 
   module _ {part : List ℕ} (ep : part ≡ take 64 (drop (spot .at) img)) where
     pub part-length : length part ≡ 64

@@ -26,7 +26,7 @@ use Rattle.pages.specs.Page.{Ready}
 use Rattle.subtries.specs.Subtrie.{asBit, levelSet, setBit, SubtrieRead}
 use Rattle.walk.specs.Walk.{Opening, Walking, Listed, anyKey, membersBetween}
 use Rattle.pages.proofs.Pages.{bytes, checked}
-use Rattle.pages.proofs.Counts.{links-count, links-few}
+use Rattle.pages.proofs.Counts.{rank-few}
 use Rattle.subtries.proofs.Ranks.{Tested, member, stranger, tested, rank-next}
 use Rattle.subtries.proofs.Sets.{set-bit}
 use Rattle.walk.proofs.Endings.{power-positive}
@@ -156,6 +156,10 @@ module _ {img : List ℕ} {b set link x v : ℕ} (s : Walking img b set link x v
   pub set-fits : set < 65536
   set-fits = omega (arith, s .set-is, Rattle.subtries.proofs.Sets.set-small (λ u. isIn (16 * x + u) (prefixesAt img (4 * b))) 16)
 
+  -- a band has few out-links
+  pub link-small : link < 65536
+  link-small = omega (arith, s .link-is, rank-few (s .ready) b (s .from) (s .to) (16 * x + v))
+
   module _ (h : v < 16) where
     bit-is : setBit set 16 v ≡ asBit (isIn (16 * x + v) (prefixesAt img (4 * b)))
     bit-is = ap (λ (n : ℕ). setBit n 16 v) (s .set-is) ∙ set-bit (λ u. isIn (16 * x + u) (prefixesAt img (4 * b))) 16 v h
@@ -218,11 +222,6 @@ module _ {img : List ℕ} {b set link x v : ℕ} (s : Walking img b set link x v
               prefix = ap (λ (n : ℕ). getD (prefixesAt img n) link 0) d ∙ ap (λ (n : ℕ). getD (prefixesAt img (4 * b)) n 0) (s .link-is) ∙ a .here;
             };
           }
-
-      pub link-small : link < 65536
-      link-small =
-          let d : 4 * (b + 1 - 1) ≡ 4 * b = omega arith in
-          omega (arith, opening-on .at .within, ap (λ (n : ℕ). length (prefixesAt img n)) d, links-count (s .ready) b (s .from) (s .to), links-few (s .ready) b)
 
       pub walking-on : Walking img b set (link + 1) x (v + 1)
       walking-on = walking-next (link + 1) (rank-step ∙ ap (link +_) bit-one)

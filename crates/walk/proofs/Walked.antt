@@ -52,6 +52,10 @@ module _ {img : List ℕ} {f : ℕ → Bool} {b set x done : ℕ} {keys₀ : Lis
         same = s .same;
       }
 
+  -- the next out-link's number is small
+  pub walked-link : next < 65536
+  walked-link = link-small (s .walking)
+
   module _ (h : v < 16) (on : setBit set 16 v ≡ 1) where
     pub walked-opening : Opening img (b + 1) next (16 * x + v)
     walked-opening = opening-on (s .walking) h on
@@ -66,9 +70,6 @@ module _ {img : List ℕ} {f : ℕ → Bool} {b set x done : ℕ} {keys₀ : Lis
         rest =
             members-split img f ((16 * x + 0) * 2 ^ (36 - 4 * (b + 1))) ((16 * x + (v + 1)) * 2 ^ (36 - 4 * (b + 1))) ((16 * x + 16) * 2 ^ (36 - 4 * (b + 1))) (keys-asc (s .walking .ready))
             (mul-le-mul-right (2 ^ (36 - 4 * (b + 1))) (let q : 16 * x + 0 ≤ 16 * x + (v + 1) = omega arith in q)) (mul-le-mul-right (2 ^ (36 - 4 * (b + 1))) (let q : 16 * x + (v + 1) ≤ 16 * x + 16 = omega arith in q))
-
-    pub walked-link : next < 65536
-    walked-link = link-small (s .walking) h on
 
     pub walked-on : {m : ℕ} {keys′ state′ : List ℕ} → Listed (membersBetween img f ((16 * x + v) * 2 ^ (36 - 4 * (b + 1))) ((16 * x + v + 1) * 2 ^ (36 - 4 * (b + 1)))) keys n keys′ m → Spots img state′ → length keys′ ≡ length keys
         → Walked img f b set x done keys₀ m (next + 1) (v + 1) keys′ state′

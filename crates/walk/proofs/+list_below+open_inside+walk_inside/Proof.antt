@@ -239,7 +239,7 @@ walk-add-link : (t : ℕ) → walk-inside-lts.Need-add-t19 (walk-calls t) (walk-
 walk-add-link t c =
     let f = c .before .before .before .before .before .before .before in
     let w = f .before .before .loop .inv in
-    omega (arith, walked-link (walk-first w (f .first-on .ensures)) (f .first-on .ensures .small) (walk-on w (f .first-on .ensures)))
+    omega (arith, walked-link (walk-first w (f .first-on .ensures)))
 
 walk-loop-less : (t : ℕ) → walk-inside-lts.Need-loop-less (walk-calls t) (walk-inside-at t) walk-inside.Post Inv-walk μ-walk
 walk-loop-less t c =
