@@ -4,7 +4,7 @@ use mathlib.Core.Bool.{Bool}
 use mathlib.Core.List.{List}
 use mathlib.Core.Path.{_≡_, refl, sym, ap, ap₂, _∙_}
 use Prim.Native.Nat.{ℕ, zero, suc, _+_, _-_, _*_, _/_, _%_, _^_, _≤_, _<_, max}
-use native.Mathlib.Nat.{add-zero, div-div-eq-div-mul, div-one, pow-succ'}
+use native.Mathlib.Nat.{add-zero}
 use native.Mathlib.Omega.{arith}
 use lib.Count.{ones}
 use lib.Pow.{shr-shr}
@@ -13,9 +13,9 @@ use Rattle.format.specs.Scan.{isHolders, largestRecord}
 use Rattle.format.specs.Seq.{isIn, rankIn}
 use Rattle.format.proofs.Levels.{prefixesAt, prefixes-asc}
 use Rattle.pages.proofs.Pages.{bytes, checked}
-use Rattle.subtries.specs.Subtrie.{asBit, setBit, setOf}
+use Rattle.subtries.specs.Subtrie.{setBit, setOf}
 use Rattle.subtries.proofs.Next.{rank-run}
-use Rattle.subtries.proofs.Sets.{bit-small}
+use Rattle.subtries.proofs.Sets.{set-first}
 use Rattle.walk.specs.Walk.{Walking, membersBetween}
 use Rattle.walk.proofs.Chains.{under-split}
 use Rattle.walk.proofs.Steps.{link-small, none-here, opening-on, walking-off, walking-on}
@@ -49,19 +49,6 @@ module _ (img records : List ℕ) (holder number link : ℕ) where
   pair-both (suc (suc (suc on))) h = refl
 
 -- ---- its first out-link
-
--- the first m of a set's bits
-set-first : (f : ℕ → Bool) (m k : ℕ) → setOf f (m + k) / 2 ^ k ≡ setOf f m
-unfolding setOf
-set-first f m zero = ap (λ (n : ℕ). setOf f n / 1) (add-zero m) ∙ div-one (setOf f m)
-set-first f m (suc k) =
-    let e : m + suc k ≡ suc (m + k) = omega arith in
-    let half : (2 * setOf f (m + k) + asBit (f (m + k))) / 2 ≡ setOf f (m + k) = omega (arith, bit-small (f (m + k))) in
-    ap (λ (n : ℕ). setOf f n / 2 ^ suc k) e
-    ∙ ap (λ (n : ℕ). setOf f (suc (m + k)) / n) (pow-succ' 2 k)
-    ∙ sym (div-div-eq-div-mul (setOf f (suc (m + k))) 2 (2 ^ k))
-    ∙ ap (_/ 2 ^ k) half
-    ∙ set-first f m k
 
 -- the out-links before an ending are the on bits before it
 pub walking-at : {img : List ℕ} {b set first x : ℕ} → Walking img b set first x 0 → (v : ℕ) → v ≤ 16 → Walking img b set (first + ones (set / 2 ^ (16 - v))) x v

@@ -1,9 +1,9 @@
--- Sets of bits: the bit of a number, and a set read level by level.
+-- Sets of bits: the bit of a number, a set's first bits, and a set read level by level.
 -- Assumes nothing.
 use mathlib.Core.Bool.{Bool, true, false}
 use mathlib.Core.Path.{_≡_, sym, ap, _∙_}
 use Prim.Native.Nat.{ℕ, zero, suc, _+_, _-_, _*_, _/_, _%_, _^_, _≤_, _<_}
-use native.Mathlib.Nat.{div-one, div-div-eq-div-mul, pow-succ'}
+use native.Mathlib.Nat.{add-zero, div-one, div-div-eq-div-mul, pow-succ'}
 use native.Mathlib.Decide.{decLt}
 use native.Mathlib.Omega.{arith}
 use Rattle.subtries.specs.Subtrie.{asBit, setOf, setBit}
@@ -17,6 +17,19 @@ pub set-small : (f : ℕ → Bool) (n : ℕ) → setOf f n < 2 ^ n
 unfolding setOf
 set-small f zero = omega arith
 set-small f (suc n) = omega (arith, set-small f n, bit-small (f n), pow-succ' 2 n)
+
+-- the first m of a set's bits
+pub set-first : (f : ℕ → Bool) (m k : ℕ) → setOf f (m + k) / 2 ^ k ≡ setOf f m
+unfolding setOf
+set-first f m zero = ap (λ (n : ℕ). setOf f n / 1) (add-zero m) ∙ div-one (setOf f m)
+set-first f m (suc k) =
+    let e : m + suc k ≡ suc (m + k) = omega arith in
+    let half : (2 * setOf f (m + k) + asBit (f (m + k))) / 2 ≡ setOf f (m + k) = omega (arith, bit-small (f (m + k))) in
+    ap (λ (n : ℕ). setOf f n / 2 ^ suc k) e
+    ∙ ap (λ (n : ℕ). setOf f (suc (m + k)) / n) (pow-succ' 2 k)
+    ∙ sym (div-div-eq-div-mul (setOf f (suc (m + k))) 2 (2 ^ k))
+    ∙ ap (_/ 2 ^ k) half
+    ∙ set-first f m k
 
 -- the bits of a set before its last are those of its half, and the last tells whether it is odd
 pub bit-up : (set w v : ℕ) → v < w → setBit set (suc w) v ≡ setBit (set / 2) w v
