@@ -1,8 +1,7 @@
 -- Ranks in an ascending list: of the next number, of a number just below a member; and membership with the answer of its test.
 -- Assumes nothing.
 use mathlib.Core.Bool.{Bool, true, false}
-use mathlib.Core.List.{List, [], _∷_, List·Memᴰ, List·Memᴰ·head, List·Memᴰ·tail, List·Memᴰ·not-nil, List·Memᴰ·cases-cons}
-use mathlib.Core.Logic.{⊎-elim}
+use mathlib.Core.List.{List, [], _∷_, List·Memᴰ, List·Memᴰ·head, List·Memᴰ·tail}
 use mathlib.Core.Path.{_≡_, refl, sym, ap, _∙_}
 use Prim.Native.Nat.{ℕ, suc, _+_, _≤_, _<_}
 use native.Mathlib.Decide.{decLt, ℕ-discrete}
@@ -13,7 +12,7 @@ use lib.ListN.{length, getD}
 use Rattle.format.specs.Seq.{consIf, isIn, rankIn, select}
 use Rattle.format.proofs.Trie.{Asc}
 use Rattle.format.proofs.Members.{asc-tail, above-mem}
-use Rattle.format.proofs.Descent.{isIn-not, rank-at}
+use Rattle.format.proofs.Descent.{isIn-mem, isIn-not, mem-isIn, rank-at}
 use Rattle.subtries.specs.Subtrie.{asBit}
 
 -- a member or not, with the test's answer
@@ -21,18 +20,14 @@ pub data Tested (x : ℕ) (l : List ℕ) : Bool → Type 0 where
   member : List·Memᴰ x l → Tested x l true
   stranger : (List·Memᴰ x l → ⊥) → Tested x l false
 
+-- which of the two, by the test
 pub tested : (x : ℕ) (l : List ℕ) → Tested x l (isIn x l)
-unfolding isIn
-tested x [] = stranger (λ m. List·Memᴰ·not-nil m)
-tested x (y ∷ l) =
-    elim (ℕ-discrete x y) [
-      | yes e ↦ rw (eq-eqb x y e) (member (List·Memᴰ·head e))
-      | no e ↦ rw (ne-eqb x y e) (go (isIn x l) e (tested x l))
-    ]
+unfolding asBit
+tested x l = go (isIn x l) refl
   where
-    go : (b : Bool) → (x ≡ y → ⊥) → Tested x l b → Tested x (y ∷ l) b
-    go true e (member m) = member (List·Memᴰ·tail m)
-    go false e (stranger f) = stranger (λ m. ⊎-elim (λ (d : x ≡ y). e d) (λ (t : List·Memᴰ x l). f t) (List·Memᴰ·cases-cons m))
+    go : (b : Bool) → isIn x l ≡ b → Tested x l b
+    go true e = member (mem-isIn x l e)
+    go false e = stranger (λ m. let z : _≡_ {A = ℕ} 0 1 = ap asBit (sym e ∙ isIn-mem x l m) in omega arith)
 
 -- how many of a list are below z
 rank-cons : (e : ℕ) (l : List ℕ) (z : ℕ) → rankIn (e ∷ l) z ≡ asBit (ltb e z) + rankIn l z
