@@ -102,6 +102,7 @@ walking-offs {img} {b} {set} {link} {x} {v} s (suc k) h off =
     subst (Walking img b set link x) e (walking-off (walking-offs s k (omega arith) (λ u from to. off u from (omega arith))) (omega arith) (off (v + k) (omega arith) (omega arith)))
 
 module _ (img : List ℕ) (f : ℕ → Bool) (b x : ℕ) where
+  -- what is below some endings is below the first of them, then below the others
   pub under-split : Ready img → (v m u : ℕ) → v ≤ m → m ≤ u → under img f b x v u ≡ under img f b x v m ++ under img f b x m u
   under-split r v m u h k =
       members-split img f ((16 * x + v) * 2 ^ (36 - 4 * (b + 1))) ((16 * x + m) * 2 ^ (36 - 4 * (b + 1))) ((16 * x + u) * 2 ^ (36 - 4 * (b + 1))) (keys-asc r)

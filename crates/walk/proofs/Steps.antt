@@ -74,19 +74,21 @@ module _ (img : List ℕ) (rectangle : Rectangle) (w x : ℕ) where
 
 module _ {img : List ℕ} {b link x : ℕ} (o : Opening img b link x) where
   module _ (z : b ≡ 9) where
-    -- the out-link's number is the key's
+    -- out of band 8 an out-link's number is the key's rank: it is below the number of keys
     pub key-within : link < length (keysOf img)
     key-within =
         let r = o .ready in
         let d : 4 * (b - 1) ≡ 32 = omega arith in
         omega (arith, o .at .within, ap (λ (n : ℕ). length (prefixesAt img n)) d, ap length (prefixes-keys img (bytes r) (checked r) (r .some)))
 
+    -- and the key stands there
     pub key-here : getD (keysOf img) link 0 ≡ x
     key-here =
         let r = o .ready in
         let d : 4 * (b - 1) ≡ 32 = omega arith in
         ap (λ (l : List ℕ). getD l link 0) (sym (prefixes-keys img (bytes r) (checked r) (r .some))) ∙ ap (λ (n : ℕ). getD (prefixesAt img n) link 0) (sym d) ∙ o .at .prefix
 
+    -- so it is listed
     key-there : List·Memᴰ x (keysOf img)
     key-there = Memᴰ·cast (sym key-here) (mem-at (keysOf img) link key-within)
 

@@ -1,4 +1,4 @@
--- The members of a rectangle are those between the first key and the last.
+-- The whole, with which the walks start: all keys that pass a test are below it, and so are all members of a rectangle.
 -- Assumes nothing.
 use mathlib.Core.Bool.{Bool}
 use mathlib.Core.List.{List, [], _∷_}
@@ -40,7 +40,7 @@ image-long {img} a = facts img a .questions .header .long
 pub ready-of : {img : List ℕ} → Accepted img → (keyCount img ≡ 0 → ⊥) → Ready img
 ready-of a f = record { accepted = a; some = omega (arith, f) }
 
--- every key is one of 32 bits
+-- all keys that pass a test are below the whole: every key has 32 bits
 pub passing-whole : {img : List ℕ} → Accepted img → (f : ℕ → Bool) → membersBetween img f (0 * 2 ^ 32) ((0 + 1) * 2 ^ 32) ≡ select f (keysOf img)
 unfolding membersBetween
 passing-whole {img} a f = ap (select f) (all-between (keysOf img) 0 4294967296 (within (keysOf img) (facts img a .keys .fits)))
@@ -58,6 +58,7 @@ module _ {img : List ℕ} (a : Accepted img) (rectangle : Rectangle) where
   unfolding memberKeys select
   no-members z = ap (select (inside rectangle)) (no-keys-listed img (a .bytes) (facts img a .questions) z)
 
+  -- so are all members
   pub members-whole : membersBetween img (inside rectangle) (0 * 2 ^ 32) ((0 + 1) * 2 ^ 32) ≡ memberKeys img rectangle
   unfolding memberKeys
   members-whole = passing-whole a (inside rectangle)
