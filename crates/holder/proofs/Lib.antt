@@ -1,6 +1,6 @@
 -- Laws for the walk down a holder's branches. Each file's head says its subject; a file uses only those above it.
 
--- the largest of some records, and of what is below an out-link
+-- the largest record below an out-link
 pub mod Records
 -- the endings of a subtrie that have a holder's bits, and two of them
 pub mod Endings

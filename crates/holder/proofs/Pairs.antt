@@ -11,6 +11,7 @@ use lib.Pow.{shr-shr}
 use Rattle.format.specs.Key.{holderOf}
 use Rattle.format.specs.Scan.{isHolders, largestRecord}
 use Rattle.format.specs.Seq.{isIn, rankIn}
+use Rattle.format.proofs.Largest.{largest-record-append, largest-record-none}
 use Rattle.format.proofs.Levels.{prefixesAt, prefixes-asc}
 use Rattle.pages.proofs.Pages.{bytes, checked}
 use Rattle.subtries.specs.Subtrie.{setBit, setOf}
@@ -21,7 +22,7 @@ use Rattle.walk.proofs.Chains.{under-split}
 use Rattle.walk.proofs.Steps.{link-small, none-here, opening-on, walking-off, walking-on}
 use Rattle.walk.proofs.Walked.{under}
 use Rattle.holder.specs.Below.{OwnPair, belowRecord, pairRecord}
-use Rattle.holder.proofs.Records.{below-is, own-of, record-append, record-none}
+use Rattle.holder.proofs.Records.{below-is, own-of}
 
 -- ---- by its two bits
 
@@ -78,7 +79,7 @@ module _ {img : List ℕ} {b set link x v : ℕ} (s : Walking img b set link x v
 
   -- an off bit
   ending-off : setBit set 16 v ≡ 0 → largestRecord img records (under img (isHolders holder) b x v (v + 1)) ≡ 0
-  ending-off off = record-none img records (one-ending ∙ none-here s h off (isHolders holder))
+  ending-off off = largest-record-none img records (one-ending ∙ none-here s h off (isHolders holder))
 
   -- an on bit
   ending-on : setBit set 16 v ≡ 1 → largestRecord img records (under img (isHolders holder) b x v (v + 1)) ≡ belowRecord img records holder (b + 1) link
@@ -100,7 +101,7 @@ module _ {img : List ℕ} {b set link x v : ℕ} (s : Walking img b set link x v
       let e : v + 2 ≡ v + 1 + 1 = omega arith in
       ap (λ (n : ℕ). largestRecord img records (under img (isHolders holder) b x v n)) e
       ∙ ap (largestRecord img records) (under-split img (isHolders holder) b x (s .ready) v (v + 1) (v + 1 + 1) (omega arith) (omega arith))
-      ∙ record-append img records (under img (isHolders holder) b x v (v + 1)) (under img (isHolders holder) b x (v + 1) (v + 1 + 1))
+      ∙ largest-record-append img records (under img (isHolders holder) b x v (v + 1)) (under img (isHolders holder) b x (v + 1) (v + 1 + 1))
 
   -- by the set's two bits
   by-bits : (on : ℕ) → on < 4 → setBit set 16 v ≡ on / 2 → setBit set 16 (v + 1) ≡ on % 2 → PairRight img records holder b x v on link

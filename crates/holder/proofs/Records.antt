@@ -1,45 +1,24 @@
--- The largest record of some keys, and of a holder's keys below an out-link.
+-- The largest record of a holder's keys below an out-link.
 -- Assumes nothing.
 use mathlib.Core.Bool.{true}
-use mathlib.Core.List.{List, [], _∷_, _++_, map, map-append}
+use mathlib.Core.List.{List}
 use mathlib.Core.Path.{_≡_, sym, ap, subst, _∙_}
-use Prim.Native.Nat.{ℕ, _+_, _-_, _*_, _/_, _^_, _≤_, _<_, max}
+use Prim.Native.Nat.{ℕ, _+_, _-_, _*_, _/_, _^_, _≤_, _<_}
 use native.Mathlib.Nat.{div-one}
 use native.Mathlib.Omega.{arith}
 use borrow.Author.Tests.{eq-eqb}
 use lib.ListN.{length, getD}
-use Rattle.format.specs.Seq.{largest, rankIn}
+use Rattle.format.specs.Seq.{rankIn}
 use Rattle.format.specs.Image.{keyCount, keysOf}
 use Rattle.format.specs.Key.{holderOf}
 use Rattle.format.specs.Scan.{isHolders, largestRecord, recordOf}
 use Rattle.format.proofs.Accepted.{facts}
 use Rattle.format.proofs.Descent.{rank-at}
+use Rattle.format.proofs.Largest.{largest-record-one}
 use Rattle.subtries.specs.Spot.{rootPrefix}
 use Rattle.walk.specs.Walk.{Opening, membersBetween}
 use Rattle.walk.proofs.Steps.{key-here, key-within, keys-asc, members-key}
 use Rattle.holder.specs.Below.{Own, belowRecord}
-
--- the largest of two lists
-largest-append : (a b : List ℕ) → largest (a ++ b) ≡ max (largest a) (largest b)
-unfolding largest
-largest-append [] b = omega arith
-largest-append (x ∷ a) b = omega (arith, largest-append a b)
-
-module _ (img records : List ℕ) where
-  -- the largest record of two lists of keys
-  pub record-append : (a b : List ℕ) → largestRecord img records (a ++ b) ≡ max (largestRecord img records a) (largestRecord img records b)
-  unfolding largestRecord
-  record-append a b = ap largest (map-append (recordOf img records) a b) ∙ largest-append (map (recordOf img records) a) (map (recordOf img records) b)
-
-  -- of no key
-  pub record-none : {keys : List ℕ} → keys ≡ [] → largestRecord img records keys ≡ 0
-  unfolding largestRecord largest
-  record-none e = ap (λ (l : List ℕ). largest (map (recordOf img records) l)) e
-
-  -- of one
-  record-one : (k : ℕ) → largestRecord img records (k ∷ []) ≡ recordOf img records k
-  unfolding largestRecord largest
-  record-one k = omega arith
 
 -- ---- below an out-link
 
@@ -72,4 +51,4 @@ module _ {img : List ℕ} {holder number link : ℕ} (own : Own img holder numbe
   unfolding belowRecord recordOf
   below-key records =
       let rank = ap (rankIn (keysOf img)) (sym (key-here (own .opening) nine)) ∙ rank-at (keysOf img) link (keys-asc (own .opening .ready)) (key-within (own .opening) nine) in
-      sym (ap (largestRecord img records) (members-key (own .opening) nine (isHolders holder) key-own) ∙ record-one img records (rootPrefix img number link) ∙ ap (λ (n : ℕ). getD records n 0) rank)
+      sym (ap (largestRecord img records) (members-key (own .opening) nine (isHolders holder) key-own) ∙ largest-record-one img records (rootPrefix img number link) ∙ ap (λ (n : ℕ). getD records n 0) rank)

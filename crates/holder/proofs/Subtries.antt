@@ -12,6 +12,7 @@ use Rattle.format.specs.Scan.{holderRecord, isHolders, keysOfHolder, largestRec
 use Rattle.format.specs.Seq.{select}
 use Rattle.format.proofs.Accepted.{facts}
 use Rattle.format.proofs.Depth.{no-keys-listed}
+use Rattle.format.proofs.Largest.{largest-record-append, largest-record-none}
 use Rattle.pages.specs.Page.{Ready}
 use Rattle.subtries.specs.Spot.{rootPrefix}
 use Rattle.subtries.specs.Subtrie.{SubtrieRead}
@@ -21,7 +22,7 @@ use Rattle.walk.proofs.Walked.{under}
 use Rattle.walk.proofs.Whole.{opening-start, passing-whole}
 use Rattle.holder.specs.declared.Pair.{Pair}
 use Rattle.holder.specs.Below.{Own, PairRead, belowRecord, ownEnding, pairRecord}
-use Rattle.holder.proofs.Records.{below-is, own-of, record-append, record-none}
+use Rattle.holder.proofs.Records.{below-is, own-of}
 use Rattle.holder.proofs.Endings.{has-bits, own-ending-few, own-next, two-pairs}
 use Rattle.holder.proofs.Pairs.{PairRight, pair-right, walking-at}
 
@@ -54,7 +55,7 @@ module _ {img : List ℕ} {holder number root set first : ℕ} (own : Own img ho
         let e : ℕ = ownEnding holder number in
         let x : ℕ = rootPrefix img number root in
         ap (largestRecord img records) (members-same (own .opening) h (isHolders holder) ∙ two-pairs holder start (own .bits))
-        ∙ record-append img records (under img (isHolders holder) number x e (e + 2)) (under img (isHolders holder) number x (e + 4) (e + 4 + 2))
+        ∙ largest-record-append img records (under img (isHolders holder) number x e (e + 2)) (under img (isHolders holder) number x (e + 4) (e + 4 + 2))
         ∙ ap₂ max (pair-own 0 e (omega arith) (omega arith) p .is) (pair-own 1 (e + 4) (omega arith) (omega arith) q .is)
 
 -- ---- the whole image
@@ -73,4 +74,4 @@ module _ {img : List ℕ} (r : Ready img) where
 -- an image without keys
 pub no-record : {img : List ℕ} → Accepted img → (records : List ℕ) (holder : ℕ) → keyCount img ≡ 0 → holderRecord img records holder ≡ 0
 unfolding holderRecord keysOfHolder select
-no-record {img} a records holder z = record-none img records (ap (select (isHolders holder)) (no-keys-listed img (a .bytes) (facts img a .questions) z))
+no-record {img} a records holder z = largest-record-none img records (ap (select (isHolders holder)) (no-keys-listed img (a .bytes) (facts img a .questions) z))
