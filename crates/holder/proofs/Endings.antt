@@ -17,7 +17,7 @@ use Rattle.walk.proofs.Chains.{under-split}
 use Rattle.walk.proofs.Endings.{power-positive}
 use Rattle.walk.proofs.Steps.{in-block, prefix-fits}
 use Rattle.walk.proofs.Walked.{under}
-use Rattle.holder.specs.Below.{ownBits, ownEnding}
+use Rattle.holder.specs.Below.{firstEnding, holderBits}
 
 -- a key's holder starts with the holder's bits of the key's prefix
 holder-prefix : (h k : ℕ) → h ≤ 16 → k / 2 ^ (2 * h) < 2 ^ (32 - 2 * h) → holderOf k / 2 ^ h ≡ holderOf (k / 2 ^ (2 * h))
@@ -46,43 +46,43 @@ bits-are n t u h k l = omega arith
 
 module _ (holder number : ℕ) where
   -- they are two
-  bits-few : ownBits holder number < 4
-  unfolding ownBits
+  bits-few : holderBits holder number < 4
+  unfolding holderBits
   bits-few = omega arith
 
   -- there are endings after the first
-  pub own-ending-few : ownEnding holder number ≤ 10
-  unfolding ownEnding
-  own-ending-few = omega (arith, bits-few)
+  pub first-ending-few : firstEnding holder number ≤ 10
+  unfolding firstEnding
+  first-ending-few = omega (arith, bits-few)
 
   -- the four endings that have the holder's bits
-  pub has-bits : (t u v : ℕ) → t < 2 → u < 2 → v ≡ ownEnding holder number + 4 * t + u → endingBits v ≡ ownBits holder number
-  unfolding ownEnding
-  has-bits t u v h k e = ap endingBits e ∙ bits-are (ownBits holder number) t u bits-few h k
+  pub ending-has-bits : (t u v : ℕ) → t < 2 → u < 2 → v ≡ firstEnding holder number + 4 * t + u → endingBits v ≡ holderBits holder number
+  unfolding firstEnding
+  ending-has-bits t u v h k e = ap endingBits e ∙ bits-are (holderBits holder number) t u bits-few h k
 
   -- no other has
-  other-bits : (v : ℕ) → v < 16 → endingBits v ≡ ownBits holder number → v ≡ ownEnding holder number + 4 * (v / 2 / 2 % 2) + v % 2
-  unfolding ownEnding
-  other-bits v h e = ending-is (ownBits holder number) v h e
+  other-bits : (v : ℕ) → v < 16 → endingBits v ≡ holderBits holder number → v ≡ firstEnding holder number + 4 * (v / 2 / 2 % 2) + v % 2
+  unfolding firstEnding
+  other-bits v h e = ending-is (holderBits holder number) v h e
 
 -- ---- the endings of a prefix that starts with the holder's bits
 
-module _ (holder : ℕ) {img : List ℕ} {b set first x : ℕ} (s : Walking img b set first x 0) (own : holderOf x ≡ holder / 2 ^ (18 - 2 * b)) where
+module _ (holder : ℕ) {img : List ℕ} {b set first x : ℕ} (s : Walking img b set first x 0) (bits : holderOf x ≡ holder / 2 ^ (18 - 2 * b)) where
   -- the holder's bits, with two more
-  two-more : holder / 2 ^ (16 - 2 * b) ≡ 4 * holderOf x + ownBits holder b
-  unfolding ownBits
+  two-more : holder / 2 ^ (16 - 2 * b) ≡ 4 * holderOf x + holderBits holder b
+  unfolding holderBits
   two-more =
       let e : 16 - 2 * b + 2 ≡ 18 - 2 * b = omega (arith, s .to) in
       omega (arith, shr-shr holder (16 - 2 * b) 2, ap (λ (n : ℕ). holder / 2 ^ n) e)
 
   -- with an ending that has the holder's bits, the prefix still starts with them
-  pub own-next : (v : ℕ) → v < 16 → endingBits v ≡ ownBits holder b → holderOf (16 * x + v) ≡ holder / 2 ^ (18 - 2 * (b + 1))
-  own-next v h e =
+  pub has-bits-next : (v : ℕ) → v < 16 → endingBits v ≡ holderBits holder b → holderOf (16 * x + v) ≡ holder / 2 ^ (18 - 2 * (b + 1))
+  has-bits-next v h e =
       let d : 18 - 2 * (b + 1) ≡ 16 - 2 * b = omega arith in
       omega (arith, part-holder x (prefix-fits s) v h, two-more, ap (λ (n : ℕ). holder / 2 ^ n) d)
 
   -- a key of the holder is below an ending that has the holder's bits
-  key-ending : (k y : ℕ) → holderOf k ≡ holder → k / 2 ^ (36 - 4 * (b + 1)) ≡ y → 16 * x ≤ y → y < 16 * x + 16 → endingBits (y - 16 * x) ≡ ownBits holder b
+  key-ending : (k y : ℕ) → holderOf k ≡ holder → k / 2 ^ (36 - 4 * (b + 1)) ≡ y → 16 * x ≤ y → y < 16 * x + 16 → endingBits (y - 16 * x) ≡ holderBits holder b
   key-ending k y e p lo hi =
       let w : 36 - 4 * (b + 1) ≡ 2 * (16 - 2 * b) = omega (arith, s .to) in
       let d : 32 - 2 * (16 - 2 * b) ≡ 4 * (b - 1) + 4 = omega (arith, s .from, s .to) in
@@ -93,7 +93,7 @@ module _ (holder : ℕ) {img : List ℕ} {b set first x : ℕ} (s : Walking img 
       omega (arith, h, ap holderOf q, ap (_/ 2 ^ (16 - 2 * b)) e, two-more, ap holderOf t, part-holder x (prefix-fits s) (y - 16 * x) (omega arith))
 
   -- below endings that have other bits there is none
-  none-below : (v u : ℕ) → u ≤ 16 → ((w : ℕ) → v ≤ w → w < u → endingBits w ≡ ownBits holder b → ⊥) → under img (isHolders holder) b x v u ≡ []
+  none-below : (v u : ℕ) → u ≤ 16 → ((w : ℕ) → v ≤ w → w < u → endingBits w ≡ holderBits holder b → ⊥) → under img (isHolders holder) b x v u ≡ []
   unfolding isHolders
   none-below v u to other =
       let P : ℕ = 2 ^ (36 - 4 * (b + 1)) in
@@ -104,10 +104,10 @@ module _ (holder : ℕ) {img : List ℕ} {b set first x : ℕ} (s : Walking img 
       other (k / P - 16 * x) (omega arith) (omega arith) (key-ending k (k / P) e refl (omega arith) (omega arith))))
 
   -- so the holder's keys are below two pairs of endings
-  pub two-pairs : under img (isHolders holder) b x 0 16 ≡ under img (isHolders holder) b x (ownEnding holder b) (ownEnding holder b + 2) ++ under img (isHolders holder) b x (ownEnding holder b + 4) (ownEnding holder b + 4 + 2)
+  pub two-pairs : under img (isHolders holder) b x 0 16 ≡ under img (isHolders holder) b x (firstEnding holder b) (firstEnding holder b + 2) ++ under img (isHolders holder) b x (firstEnding holder b + 4) (firstEnding holder b + 4 + 2)
   two-pairs =
-      let e : ℕ = ownEnding holder b in
-      let few = own-ending-few holder b in
+      let e : ℕ = firstEnding holder b in
+      let few = first-ending-few holder b in
       let split = under-split img (isHolders holder) b x (s .ready) in
       let other = other-bits holder b in
       split 0 e 16 (omega arith) (omega arith)

@@ -21,8 +21,8 @@ use Rattle.walk.specs.Walk.{Walking, membersBetween}
 use Rattle.walk.proofs.Chains.{under-split}
 use Rattle.walk.proofs.Steps.{link-small, none-here, opening-on, walking-off, walking-on}
 use Rattle.walk.proofs.Walked.{under}
-use Rattle.holder.specs.Below.{OwnPair, belowRecord, pairRecord}
-use Rattle.holder.proofs.Records.{below-is, own-of}
+use Rattle.holder.specs.Below.{PairHasBits, belowRecord, pairRecord}
+use Rattle.holder.proofs.Records.{below-is, has-bits-of}
 
 -- ---- by its two bits
 
@@ -87,10 +87,10 @@ module _ {img : List ℕ} {b set link x v : ℕ} (s : Walking img b set link x v
 
 -- ---- two endings, which have the holder's bits
 
--- what is below a pair, and that its out-links are the holder's
+-- what is below a pair, and that its out-links have the holder's bits
 pub record PairRight (img records : List ℕ) (holder b x v on link : ℕ) : Type 0 where
   pub is : largestRecord img records (under img (isHolders holder) b x v (v + 2)) ≡ pairRecord img records holder (b + 1) on link
-  pub own : OwnPair img holder (b + 1) on link
+  pub has-bits : PairHasBits img holder (b + 1) on link
 
 module _ {img : List ℕ} {b set link x v : ℕ} (s : Walking img b set link x v) (h : v < 15) (records : List ℕ) (holder : ℕ)
     (first : holderOf (16 * x + v) ≡ holder / 2 ^ (18 - 2 * (b + 1))) (second : holderOf (16 * x + (v + 1)) ≡ holder / 2 ^ (18 - 2 * (b + 1))) where
@@ -109,24 +109,24 @@ module _ {img : List ℕ} {b set link x v : ℕ} (s : Walking img b set link x v
   by-bits zero k p q =
       record {
         is = both ∙ omega (arith, ending-off s (omega arith) records holder p, ending-off (walking-off s (omega arith) p) (omega arith) records holder q);
-        own = record { small = k; few = link-small s; first = λ n. absurd (n refl); second = λ e. absurd (omega arith) };
+        has-bits = record { small = k; few = link-small s; first = λ n. absurd (n refl); second = λ e. absurd (omega arith) };
       }
   by-bits (suc zero) k p q =
       let w = walking-off s (omega arith) p in
       record {
         is = both ∙ omega (arith, ending-off s (omega arith) records holder p, ending-on w (omega arith) records holder q);
-        own = record { small = k; few = link-small s; first = λ n. own-of (opening-on w (omega arith) q) second; second = λ e. absurd (omega arith) };
+        has-bits = record { small = k; few = link-small s; first = λ n. has-bits-of (opening-on w (omega arith) q) second; second = λ e. absurd (omega arith) };
       }
   by-bits (suc (suc zero)) k p q =
       record {
         is = both ∙ omega (arith, ending-on s (omega arith) records holder p, ending-off (walking-on s (omega arith) p) (omega arith) records holder q);
-        own = record { small = k; few = link-small s; first = λ n. own-of (opening-on s (omega arith) p) first; second = λ e. absurd (omega arith) };
+        has-bits = record { small = k; few = link-small s; first = λ n. has-bits-of (opening-on s (omega arith) p) first; second = λ e. absurd (omega arith) };
       }
   by-bits (suc (suc (suc zero))) k p q =
       let w = walking-on s (omega arith) p in
       record {
         is = both ∙ ap₂ max (ending-on s (omega arith) records holder p) (ending-on w (omega arith) records holder q);
-        own = record { small = k; few = link-small s; first = λ n. own-of (opening-on s (omega arith) p) first; second = λ e. own-of (opening-on w (omega arith) q) second };
+        has-bits = record { small = k; few = link-small s; first = λ n. has-bits-of (opening-on s (omega arith) p) first; second = λ e. has-bits-of (opening-on w (omega arith) q) second };
       }
   by-bits (suc (suc (suc (suc n)))) k p q = absurd (omega arith)
 

@@ -18,7 +18,7 @@ use Rattle.format.proofs.Largest.{largest-record-one}
 use Rattle.subtries.specs.Spot.{rootPrefix}
 use Rattle.walk.specs.Walk.{Opening, membersBetween}
 use Rattle.walk.proofs.Steps.{key-here, key-within, keys-asc, members-key}
-use Rattle.holder.specs.Below.{Own, belowRecord}
+use Rattle.holder.specs.Below.{HasBits, belowRecord}
 
 -- ---- below an out-link
 
@@ -28,27 +28,27 @@ module _ {img : List ℕ} {b link x : ℕ} (o : Opening img b link x) where
   unfolding belowRecord
   below-is records holder = ap (λ (y : ℕ). largestRecord img records (membersBetween img (isHolders holder) (y * 2 ^ (36 - 4 * b)) ((y + 1) * 2 ^ (36 - 4 * b)))) (o .at .prefix)
 
-  -- its prefix has the holder's bits
-  pub own-of : {holder : ℕ} → holderOf x ≡ holder / 2 ^ (18 - 2 * b) → Own img holder b link
-  own-of e = record { opening = subst (Opening img b link) (sym (o .at .prefix)) o; bits = ap holderOf (o .at .prefix) ∙ e }
+  -- it has the holder's bits where its prefix has them
+  pub has-bits-of : {holder : ℕ} → holderOf x ≡ holder / 2 ^ (18 - 2 * b) → HasBits img holder b link
+  has-bits-of e = record { opening = subst (Opening img b link) (sym (o .at .prefix)) o; bits = ap holderOf (o .at .prefix) ∙ e }
 
 -- ---- out of band 8: a key, of which the out-link's number is the rank
 
-module _ {img : List ℕ} {holder number link : ℕ} (own : Own img holder number link) (nine : number ≡ 9) where
+module _ {img : List ℕ} {holder number link : ℕ} (has : HasBits img holder number link) (nine : number ≡ 9) where
   -- the key is the holder's
-  key-own : isHolders holder (rootPrefix img number link) ≡ true
+  key-is-holders : isHolders holder (rootPrefix img number link) ≡ true
   unfolding isHolders
-  key-own =
+  key-is-holders =
       let w : 18 - 2 * number ≡ 0 = omega arith in
-      eq-eqb (holderOf (rootPrefix img number link)) holder (own .bits ∙ ap (λ (n : ℕ). holder / 2 ^ n) w ∙ div-one holder)
+      eq-eqb (holderOf (rootPrefix img number link)) holder (has .bits ∙ ap (λ (n : ℕ). holder / 2 ^ n) w ∙ div-one holder)
 
   -- it has a record
   pub rank-within : (records : List ℕ) → keyCount img ≤ length records → link < length records
-  rank-within records h = omega (arith, key-within (own .opening) nine, facts img (own .opening .ready .accepted) .keys .count-is)
+  rank-within records h = omega (arith, key-within (has .opening) nine, facts img (has .opening .ready .accepted) .keys .count-is)
 
   -- which is the largest, since it is the only one
   pub below-key : (records : List ℕ) → getD records link 0 ≡ belowRecord img records holder number link
   unfolding belowRecord recordOf
   below-key records =
-      let rank = ap (rankIn (keysOf img)) (sym (key-here (own .opening) nine)) ∙ rank-at (keysOf img) link (keys-asc (own .opening .ready)) (key-within (own .opening) nine) in
-      sym (ap (largestRecord img records) (members-key (own .opening) nine (isHolders holder) key-own) ∙ largest-record-one img records (rootPrefix img number link) ∙ ap (λ (n : ℕ). getD records n 0) rank)
+      let rank = ap (rankIn (keysOf img)) (sym (key-here (has .opening) nine)) ∙ rank-at (keysOf img) link (keys-asc (has .opening .ready)) (key-within (has .opening) nine) in
+      sym (ap (largestRecord img records) (members-key (has .opening) nine (isHolders holder) key-is-holders) ∙ largest-record-one img records (rootPrefix img number link) ∙ ap (λ (n : ℕ). getD records n 0) rank)

@@ -21,15 +21,15 @@ use Rattle.walk.proofs.Steps.{link-small, members-same, walking-start}
 use Rattle.walk.proofs.Walked.{under}
 use Rattle.walk.proofs.Whole.{opening-start, passing-whole}
 use Rattle.holder.specs.declared.Pair.{Pair}
-use Rattle.holder.specs.Below.{Own, PairRead, belowRecord, ownEnding, pairRecord}
-use Rattle.holder.proofs.Records.{below-is, own-of}
-use Rattle.holder.proofs.Endings.{has-bits, own-ending-few, own-next, two-pairs}
+use Rattle.holder.specs.Below.{HasBits, PairRead, belowRecord, firstEnding, pairRecord}
+use Rattle.holder.proofs.Records.{below-is, has-bits-of}
+use Rattle.holder.proofs.Endings.{ending-has-bits, first-ending-few, has-bits-next, two-pairs}
 use Rattle.holder.proofs.Pairs.{PairRight, pair-right, walking-at}
 
-module _ {img : List ℕ} {holder number root set first : ℕ} (own : Own img holder number root) (h : number ≤ 8) (s : SubtrieRead img number (rootPrefix img number root) set first) where
+module _ {img : List ℕ} {holder number root set first : ℕ} (has : HasBits img holder number root) (h : number ≤ 8) (s : SubtrieRead img number (rootPrefix img number root) set first) where
   -- its endings, from the first on
   start : Walking img number set first (rootPrefix img number root) 0
-  start = walking-start (own .opening) h refl s
+  start = walking-start (has .opening) h refl s
 
   -- its first out-link's number is small
   pub first-few : first < 65536
@@ -37,34 +37,34 @@ module _ {img : List ℕ} {holder number root set first : ℕ} (own : Own img ho
 
   module _ (records : List ℕ) where
     -- the first pair that has the holder's bits, or the second
-    pub pair-own : (t v : ℕ) {pair : Pair} → t < 2 → v ≡ ownEnding holder number + 4 * t → PairRead set first v pair → PairRight img records holder number (rootPrefix img number root) v (pair .on) (pair .link .0)
-    pair-own t v {pair} k e r =
-        let small : v < 15 = omega (arith, own-ending-few holder number) in
-        let next = own-next holder start (own .bits) in
+    pub pair-has-bits : (t v : ℕ) {pair : Pair} → t < 2 → v ≡ firstEnding holder number + 4 * t → PairRead set first v pair → PairRight img records holder number (rootPrefix img number root) v (pair .on) (pair .link .0)
+    pair-has-bits t v {pair} k e r =
+        let small : v < 15 = omega (arith, first-ending-few holder number) in
+        let next = has-bits-next holder start (has .bits) in
         subst (PairRight img records holder number (rootPrefix img number root) v (pair .on)) (sym (r .link-is))
         (pair-right (walking-at start v (omega arith)) small records holder
-        (next v (omega arith) (has-bits holder number t 0 v k (omega arith) (omega arith)))
-        (next (v + 1) (omega arith) (has-bits holder number t 1 (v + 1) k (omega arith) (omega arith)))
+        (next v (omega arith) (ending-has-bits holder number t 0 v k (omega arith) (omega arith)))
+        (next (v + 1) (omega arith) (ending-has-bits holder number t 1 (v + 1) k (omega arith) (omega arith)))
         (r .on-is))
 
     -- all that the holder has below the root is below these two
-    pub subtrie-record : {upper lower : Pair} → PairRead set first (ownEnding holder number) upper → PairRead set first (ownEnding holder number + 4) lower
+    pub subtrie-record : {upper lower : Pair} → PairRead set first (firstEnding holder number) upper → PairRead set first (firstEnding holder number + 4) lower
         → belowRecord img records holder number root ≡ max (pairRecord img records holder (number + 1) (upper .on) (upper .link .0)) (pairRecord img records holder (number + 1) (lower .on) (lower .link .0))
     unfolding belowRecord
     subtrie-record p q =
-        let e : ℕ = ownEnding holder number in
+        let e : ℕ = firstEnding holder number in
         let x : ℕ = rootPrefix img number root in
-        ap (largestRecord img records) (members-same (own .opening) h (isHolders holder) ∙ two-pairs holder start (own .bits))
+        ap (largestRecord img records) (members-same (has .opening) h (isHolders holder) ∙ two-pairs holder start (has .bits))
         ∙ largest-record-append img records (under img (isHolders holder) number x e (e + 2)) (under img (isHolders holder) number x (e + 4) (e + 4 + 2))
-        ∙ ap₂ max (pair-own 0 e (omega arith) (omega arith) p .is) (pair-own 1 (e + 4) (omega arith) (omega arith) q .is)
+        ∙ ap₂ max (pair-has-bits 0 e (omega arith) (omega arith) p .is) (pair-has-bits 1 (e + 4) (omega arith) (omega arith) q .is)
 
 -- ---- the whole image
 
 module _ {img : List ℕ} (r : Ready img) where
-  -- every holder's bits start at root 0 of band 1
-  pub own-start : (holder : ℕ) → holder < 65536 → Own img holder 1 0
+  -- root 0 of band 1 has every holder's bits: none is read yet
+  pub has-bits-start : (holder : ℕ) → holder < 65536 → HasBits img holder 1 0
   unfolding holderOf gather
-  own-start holder h = own-of (opening-start r) (sym (div-eq-of-lt h))
+  has-bits-start holder h = has-bits-of (opening-start r) (sym (div-eq-of-lt h))
 
   -- all of the holder's keys are below it
   pub whole-record : (records : List ℕ) (holder : ℕ) → belowRecord img records holder 1 0 ≡ holderRecord img records holder
@@ -72,6 +72,6 @@ module _ {img : List ℕ} (r : Ready img) where
   whole-record records holder = below-is (opening-start r) records holder ∙ ap (largestRecord img records) (passing-whole (r .accepted) (isHolders holder))
 
 -- an image without keys
-pub no-record : {img : List ℕ} → Accepted img → (records : List ℕ) (holder : ℕ) → keyCount img ≡ 0 → holderRecord img records holder ≡ 0
+pub empty-record : {img : List ℕ} → Accepted img → (records : List ℕ) (holder : ℕ) → keyCount img ≡ 0 → holderRecord img records holder ≡ 0
 unfolding holderRecord keysOfHolder select
-no-record {img} a records holder z = largest-record-none img records (ap (select (isHolders holder)) (no-keys-listed img (a .bytes) (facts img a .questions) z))
+empty-record {img} a records holder z = largest-record-none img records (ap (select (isHolders holder)) (no-keys-listed img (a .bytes) (facts img a .questions) z))

@@ -25,23 +25,23 @@ pairRecord img records holder number (suc (suc zero)) link = belowRecord img rec
 pairRecord img records holder number (suc (suc (suc n))) link = max (belowRecord img records holder number link) (belowRecord img records holder number (link + 1))
 
 -- the out-link is there, and the holder's bits of its prefix are the first bits of `holder`
-pub record Own (img : List ℕ) (holder number link : ℕ) : Type 0 where
+pub record HasBits (img : List ℕ) (holder number link : ℕ) : Type 0 where
   pub opening : Opening img number link (rootPrefix img number link)
   pub bits : holderOf (rootPrefix img number link) ≡ holder / 2 ^ (18 - 2 * number)
 
 -- the same of each out-link of a pair that is there
-pub record OwnPair (img : List ℕ) (holder number on link : ℕ) : Type 0 where
+pub record PairHasBits (img : List ℕ) (holder number on link : ℕ) : Type 0 where
   pub small : on < 4
   pub few : link < 65536
-  pub first : (on ≡ 0 → ⊥) → Own img holder number link
-  pub second : on ≡ 3 → Own img holder number (link + 1)
+  pub first : (on ≡ 0 → ⊥) → HasBits img holder number link
+  pub second : on ≡ 3 → HasBits img holder number (link + 1)
 
 -- the two bits of `holder` that band `number` reads, and the first ending that has them
-unfoldable pub ownBits : ℕ → ℕ → ℕ
-ownBits holder number = holder / 2 ^ (16 - 2 * number) % 4
+unfoldable pub holderBits : ℕ → ℕ → ℕ
+holderBits holder number = holder / 2 ^ (16 - 2 * number) % 4
 
-unfoldable pub ownEnding : ℕ → ℕ → ℕ
-ownEnding holder number = 8 * (ownBits holder number / 2) + 2 * (ownBits holder number % 2)
+unfoldable pub firstEnding : ℕ → ℕ → ℕ
+firstEnding holder number = 8 * (holderBits holder number / 2) + 2 * (holderBits holder number % 2)
 
 -- the pair of `ending` and the one after it, of a subtrie with that set and that first out-link
 pub record PairRead (set first ending : ℕ) (pair : Pair) : Type 0 where

@@ -7,7 +7,7 @@ ghost use Rattle.format.specs.Exact.{Accepted};
 ghost use Rattle.format.specs.Image.{keyCount};
 ghost use Rattle.format.specs.Scan.{holderRecord};
 ghost use Rattle.subtries.specs.Spot.{Spots};
-ghost use Rattle.holder.specs.Below.{Own, OwnPair, PairRead, belowRecord, ownEnding, pairRecord};
+ghost use Rattle.holder.specs.Below.{HasBits, PairHasBits, PairRead, belowRecord, firstEnding, pairRecord};
 use format::OutLink;
 use format::Root;
 use format::cross;
@@ -23,9 +23,9 @@ fn larger(a: u32, b: u32) -> u32
 }
 
 // The first of the four endings that have the two bits of `holder` that band `number` reads; the others are 1, 4 and 5 after it.
-fn own_ending(holder: u16, number: usize) -> usize
+fn first_ending(holder: u16, number: usize) -> usize
     requires { ⌜ number ≤ 8 ⌝ }
-    ensures { λ r. ⌜ (r ≡ ownEnding holder number) × (r ≤ 10) ⌝ }
+    ensures { λ r. ⌜ (r ≡ firstEnding holder number) × (r ≤ 10) ⌝ }
 {
     let bits = (holder as usize >> (16 - 2 * number)) % 4;
     8 * (bits / 2) + 2 * (bits % 2)
@@ -58,7 +58,7 @@ fn record_at(
     link: OutLink,
     holder: u16,
 ) -> u32
-    requires { ⌜ (Own (now image) holder number (link .0)) × (Spots (now image) (now state)) × (keyCount (now image) ≤ length (now records)) ⌝ }
+    requires { ⌜ (HasBits (now image) holder number (link .0)) × (Spots (now image) (now state)) × (keyCount (now image) ≤ length (now records)) ⌝ }
     ensures { λ r. ⌜ (r ≡ belowRecord (now (image .entry)) (now (records .entry)) holder number (link .0)) × (Spots (now (image .entry)) (now (state .exit))) ⌝ }
 {
     if number == 9 {
@@ -77,7 +77,7 @@ fn record_of_pair(
     pair: Pair,
     holder: u16,
 ) -> u32
-    requires { ⌜ (OwnPair (now image) holder number (pair .on) (pair .link .0)) × (Spots (now image) (now state)) × (keyCount (now image) ≤ length (now records)) ⌝ }
+    requires { ⌜ (PairHasBits (now image) holder number (pair .on) (pair .link .0)) × (Spots (now image) (now state)) × (keyCount (now image) ≤ length (now records)) ⌝ }
     ensures { λ r. ⌜ (r ≡ pairRecord (now (image .entry)) (now (records .entry)) holder number (pair .on) (pair .link .0)) × (Spots (now (image .entry)) (now (state .exit))) ⌝ }
 {
     let on = pair.on;
@@ -102,11 +102,11 @@ fn record_below(
     root: Root,
     holder: u16,
 ) -> u32
-    requires { ⌜ (Own (now image) holder number (root .0)) × (number ≤ 8) × (Spots (now image) (now state)) × (keyCount (now image) ≤ length (now records)) ⌝ }
+    requires { ⌜ (HasBits (now image) holder number (root .0)) × (number ≤ 8) × (Spots (now image) (now state)) × (keyCount (now image) ≤ length (now records)) ⌝ }
     ensures { λ r. ⌜ (r ≡ belowRecord (now (image .entry)) (now (records .entry)) holder number (root .0)) × (Spots (now (image .entry)) (now (state .exit))) ⌝ }
 {
     let subtrie = next_subtrie(image, state, number, root);
-    let ending = own_ending(holder, number);
+    let ending = first_ending(holder, number);
     let upper = record_of_pair(
         image,
         records,

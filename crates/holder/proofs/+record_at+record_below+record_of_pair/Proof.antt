@@ -9,7 +9,7 @@ use borrow.Fn.PlainCycle.{Measures, is, falls, and}
 use Rattle.walk.proofs.Steps.{root-there}
 use Rattle.holder.proofs.Records.{below-key, rank-within}
 use Rattle.holder.proofs.Pairs.{pair-both, pair-none, pair-one}
-use Rattle.holder.proofs.Subtries.{first-few, pair-own, subtrie-record}
+use Rattle.holder.proofs.Subtries.{first-few, pair-has-bits, subtrie-record}
 use Rattle.holder.proofs.record_at.Reads as record-at
 use Rattle.holder.proofs.record_at.Kinds as record-at-kinds
 use Rattle.holder.proofs.+record_at+record_below+record_of_pair.Lts-record_at as record-at-lts
@@ -21,7 +21,7 @@ use Rattle.holder.proofs.record_of_pair.Kinds as record-of-pair-kinds
 use Rattle.holder.proofs.+record_at+record_below+record_of_pair.Lts-record_of_pair as record-of-pair-lts
 use Rattle.format.proofs.cross.Reads as cross-reads
 use Rattle.holder.proofs.larger.Reads as larger-reads
-use Rattle.holder.proofs.own_ending.Reads as own-ending-reads
+use Rattle.holder.proofs.first_ending.Reads as first-ending-reads
 use Rattle.holder.proofs.pair_at.Reads as pair-at-reads
 use Rattle.subtries.proofs.next_subtrie.Reads as next-subtrie-reads
 use Rattle.holder.proofs.+record_at+record_below+record_of_pair.{statement}
@@ -63,8 +63,8 @@ abbrev below-calls : ℕ → record-below-lts.Claims
 below-calls t = (
   next-subtrie-reads.Asked,
   next-subtrie-reads.Learnt,
-  own-ending-reads.Asked,
-  own-ending-reads.Learnt,
+  first-ending-reads.Asked,
+  first-ending-reads.Learnt,
   pair-at-reads.Asked,
   pair-at-reads.Learnt,
   record-of-pair-below t,
@@ -115,8 +115,8 @@ pair-first-requires : (t : ℕ) → record-of-pair-lts.Need-record-at-requires (
 pair-first-requires t c κs =
     let s = c .before .before .before .before .before in
     let p = s .pre .1 in
-    let own = p .0 .first (c .before .if1 .left) in
-    (omega (arith, s .pre .0, own .opening .to), (own, p .1, p .2))
+    let has = p .0 .first (c .before .if1 .left) in
+    (omega (arith, s .pre .0, has .opening .to), (has, p .1, p .2))
 
 pair-one-returns : (t : ℕ) → record-of-pair-lts.Need-returns-2 (pair-calls t) (record-of-pair-at t) record-of-pair.Post
 pair-one-returns t c =
@@ -130,8 +130,8 @@ pair-second-requires : (t : ℕ) → record-of-pair-lts.Need-record-at-requires-
 pair-second-requires t c κs =
     let s = c .before .before .before .before .before .before .before .before .before in
     let p = s .pre .1 in
-    let own = p .0 .second (omega (arith, p .0 .small, c .before .before .if2 .left)) in
-    (omega (arith, s .pre .0, own .opening .to), (own, c .before .before .before .record-at .ensures .1, p .2))
+    let has = p .0 .second (omega (arith, p .0 .small, c .before .before .if2 .left)) in
+    (omega (arith, s .pre .0, has .opening .to), (has, c .before .before .before .record-at .ensures .1, p .2))
 
 pair-both-returns : (t : ℕ) → record-of-pair-lts.Need-returns-3 (pair-calls t) (record-of-pair-at t) record-of-pair.Post
 pair-both-returns t c =
@@ -151,30 +151,30 @@ upper-pair-requires t c κs =
     let n = c .before .before in
     let s = n .before .before .before .before in
     let p = s .pre .1 in
-    (first-few (p .0) (p .1) (n .next-subtrie .ensures .0), omega (arith, c .before .own-ending .ensures .1))
+    (first-few (p .0) (p .1) (n .next-subtrie .ensures .0), omega (arith, c .before .first-ending .ensures .1))
 
 upper-record-requires : (t : ℕ) → record-below-lts.Need-record-of-pair-requires (below-calls t) (record-below-at t) record-below.Post
 upper-record-requires t c κs =
     let n = c .before .before .before in
     let s = n .before .before .before .before in
     let p = s .pre .1 in
-    let q = pair-own (p .0) (p .1) (n .next-subtrie .ensures .0) (s .args .records .now) 0 _ (omega arith) (omega (arith, c .before .before .own-ending .ensures .0)) (c .pair-at .ensures) in
-    (omega (arith, s .pre .0, p .1), (q .own, n .next-subtrie .ensures .1, p .3))
+    let q = pair-has-bits (p .0) (p .1) (n .next-subtrie .ensures .0) (s .args .records .now) 0 _ (omega arith) (omega (arith, c .before .before .first-ending .ensures .0)) (c .pair-at .ensures) in
+    (omega (arith, s .pre .0, p .1), (q .has-bits, n .next-subtrie .ensures .1, p .3))
 
 lower-pair-requires : (t : ℕ) → record-below-lts.Need-pair-at-requires-2 (below-calls t) (record-below-at t) record-below.Post
 lower-pair-requires t c κs =
     let n = c .before .before .before .before .before in
     let s = n .before .before .before .before in
     let p = s .pre .1 in
-    (first-few (p .0) (p .1) (n .next-subtrie .ensures .0), omega (arith, c .before .before .before .before .own-ending .ensures .1))
+    (first-few (p .0) (p .1) (n .next-subtrie .ensures .0), omega (arith, c .before .before .before .before .first-ending .ensures .1))
 
 lower-record-requires : (t : ℕ) → record-below-lts.Need-record-of-pair-requires-2 (below-calls t) (record-below-at t) record-below.Post
 lower-record-requires t c κs =
     let n = c .before .before .before .before .before .before in
     let s = n .before .before .before .before in
     let p = s .pre .1 in
-    let q = pair-own (p .0) (p .1) (n .next-subtrie .ensures .0) (s .args .records .now) 1 _ (omega arith) (omega (arith, c .before .before .before .before .before .own-ending .ensures .0)) (c .pair-at2 .ensures) in
-    (omega (arith, s .pre .0, p .1), (q .own, c .before .before .record-of-pair .ensures .1, p .3))
+    let q = pair-has-bits (p .0) (p .1) (n .next-subtrie .ensures .0) (s .args .records .now) 1 _ (omega arith) (omega (arith, c .before .before .before .before .before .first-ending .ensures .0)) (c .pair-at2 .ensures) in
+    (omega (arith, s .pre .0, p .1), (q .has-bits, c .before .before .record-of-pair .ensures .1, p .3))
 
 below-returns : (t : ℕ) → record-below-lts.Need-returns (below-calls t) (record-below-at t) record-below.Post
 below-returns t c =
@@ -184,8 +184,8 @@ below-returns t c =
     let n = e .before in
     let s = n .before .before .before .before in
     let p = s .pre .1 in
-    let q = rw (e .own-ending .ensures .0) at (upper .before .pair-at .ensures) in
-    let q′ = rw (e .own-ending .ensures .0) at (lower .before .pair-at2 .ensures) in
+    let q = rw (e .first-ending .ensures .0) at (upper .before .pair-at .ensures) in
+    let q′ = rw (e .first-ending .ensures .0) at (lower .before .pair-at2 .ensures) in
     (c .larger .ensures ∙ ap₂ max (upper .record-of-pair .ensures .0) (lower .record-of-pair2 .ensures .0) ∙ sym (subtrie-record (p .0) (p .1) (n .next-subtrie .ensures .0) (s .args .records .now) q q′), lower .record-of-pair2 .ensures .1)
 
 pub +record-at+record-below+record-of-pair-spec : {M : Type 1} → statement M
