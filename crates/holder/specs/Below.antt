@@ -10,12 +10,12 @@ use Rattle.subtries.specs.Spot.{rootPrefix}
 use Rattle.walk.specs.Walk.{Opening, membersBetween}
 use Rattle.holder.specs.declared.Pair.{Pair}
 
--- the largest record of the holder's keys that start with the prefix of root `link` of band `number`, to which the out-link of that number leads; out of
--- band 8, where `number` is 9, the prefix is a key
+-- the largest record of the holder's keys that start with the prefix of root `root` of band `number`; crossing keeps the number, so it is the out-link's
+-- too; out of band 8, where `number` is 9, the prefix is a key
 unfoldable pub belowRecord : List ℕ → List ℕ → ℕ → ℕ → ℕ → ℕ
-belowRecord img records holder number link =
+belowRecord img records holder number root =
     largestRecord img records
-    (membersBetween img (isHolders holder) (rootPrefix img number link * 2 ^ (36 - 4 * number)) ((rootPrefix img number link + 1) * 2 ^ (36 - 4 * number)))
+    (membersBetween img (isHolders holder) (rootPrefix img number root * 2 ^ (36 - 4 * number)) ((rootPrefix img number root + 1) * 2 ^ (36 - 4 * number)))
 
 -- the same below a pair of endings, by its two bits; `link` is the first out-link that is there
 unfoldable pub pairRecord : List ℕ → List ℕ → ℕ → ℕ → ℕ → ℕ → ℕ
@@ -24,10 +24,10 @@ pairRecord img records holder number (suc zero) link = belowRecord img records h
 pairRecord img records holder number (suc (suc zero)) link = belowRecord img records holder number link
 pairRecord img records holder number (suc (suc (suc n))) link = max (belowRecord img records holder number link) (belowRecord img records holder number (link + 1))
 
--- the out-link is there, and the holder's bits of its prefix are the first bits of `holder`
-pub record HasBits (img : List ℕ) (holder number link : ℕ) : Type 0 where
-  pub opening : Opening img number link (rootPrefix img number link)
-  pub bits : holderOf (rootPrefix img number link) ≡ holder / 2 ^ (18 - 2 * number)
+-- the root is there, and the holder's bits of its prefix are the first bits of `holder`; `root` and `number` are as above
+pub record HasBits (img : List ℕ) (holder number root : ℕ) : Type 0 where
+  pub opening : Opening img number root (rootPrefix img number root)
+  pub bits : holderOf (rootPrefix img number root) ≡ holder / 2 ^ (18 - 2 * number)
 
 -- the same of each out-link of a pair that is there
 pub record PairHasBits (img : List ℕ) (holder number on link : ℕ) : Type 0 where
