@@ -49,7 +49,8 @@ fn pair_at(subtrie: Subtrie, ending: usize) -> Pair
     }
 }
 
-// The largest record of the holder's keys to which an out-link leads, in band `number`; out of band 8 that is one key.
+// The largest record of the holder's keys below an out-link that leads to band `number`; out of band 8, where `number` is 9, it leads to a key, and its number is
+// the key's rank.
 fn record_at(
     image: &[u8],
     records: &[u32],
@@ -68,7 +69,7 @@ fn record_at(
     record_below(image, records, state, number, cross(link), holder)
 }
 
-// The largest record of the holder's keys below a pair of endings.
+// The largest record of the holder's keys below a pair of endings; `number` is the band below the pair's.
 fn record_of_pair(
     image: &[u8],
     records: &[u32],
