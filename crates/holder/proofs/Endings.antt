@@ -29,6 +29,7 @@ holder-prefix h k le short =
 
 -- ---- the holder's two bits of an ending
 
+-- the first and the third bit of four
 abbrev endingBits : ℕ → ℕ
 endingBits v = 2 * (v / 8) + v / 2 % 2
 

@@ -36,10 +36,11 @@ pub record PairHasBits (img : List ℕ) (holder number on link : ℕ) : Type 0 w
   pub first : (on ≡ 0 → ⊥) → HasBits img holder number link
   pub second : on ≡ 3 → HasBits img holder number (link + 1)
 
--- the two bits of `holder` that band `number` reads, and the first ending that has them
+-- the two bits of `holder` that band `number` reads
 unfoldable pub holderBits : ℕ → ℕ → ℕ
 holderBits holder number = holder / 2 ^ (16 - 2 * number) % 4
 
+-- the first ending that has them
 unfoldable pub firstEnding : ℕ → ℕ → ℕ
 firstEnding holder number = 8 * (holderBits holder number / 2) + 2 * (holderBits holder number % 2)
 
