@@ -15,6 +15,7 @@ pub use random::Random;
 pub use random::below;
 pub use random::next;
 pub use reader::count_inside;
+pub use reader::holder_of;
 pub use reader::is_inside;
 pub use reader::key_of;
 pub use reader::rank_of;

@@ -43,9 +43,14 @@ fn even_bits(key: u32) -> u32 {
     bits as u32
 }
 
+// The holder of a key.
+pub fn holder_of(key: u32) -> u32 {
+    even_bits(key / 2)
+}
+
 // Whether the key's holder and slot lie in the rectangle.
 pub fn is_inside(key: u32, rectangle: Rectangle) -> bool {
-    let holder = even_bits(key / 2);
+    let holder = holder_of(key);
     let slot = even_bits(key);
     let holders = rectangle.holders;
     let slots = rectangle.slots;
