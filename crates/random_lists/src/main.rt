@@ -3,6 +3,7 @@
 mod ask;
 mod damage;
 mod pairs;
+mod rule;
 mod scans;
 mod tally;
 

@@ -1,76 +1,21 @@
-// Long rows of scans, against a plain rule of the gate: each answer, and after it every record and every lane's count.
+// Long rows of scans, against the plain rule of the gate: each answer, and after it every record and every lane's count.
 use crate::ask::at_rank;
-use crate::ask::is_at;
 use crate::ask::pick;
+use crate::rule::Card;
+use crate::rule::is_by_another;
+use crate::rule::rank_of;
+use crate::rule::rule;
+use crate::tally::ANOTHER;
+use crate::tally::DIFFERENCES;
 use crate::tally::SCANS;
 use crate::tally::Tally;
+use crate::tally::count_of;
 use crate::tally::expect;
+use crate::tally::note;
 use gate::Scanned;
 use testing::Random;
-use testing::one_more;
+use testing::holder_of;
 use testing::starts_with;
-
-// A card at the gate.
-struct Card {
-    holder: u16,
-    slot: u16,
-    time: u32,
-    lockout: u32,
-    lane: u32,
-    // The gate's.
-    lift: u32,
-}
-
-// The number of the refusal that a record asks for, or 0.
-fn due(record: u32, card: Card) -> u8 {
-    if record == 0 {
-        return 0;
-    }
-    let now = card.time as u64 + 1;
-    if now < record as u64 {
-        return 25;
-    }
-    if now < record as u64 + card.lockout as u64 {
-        return 26;
-    }
-    0
-}
-
-// The rank that the plain reader finds; 65,536 for a card that is not listed.
-fn rank_of(keys: &[u32], card: Card) -> usize {
-    let key = testing::key_of(card.holder, card.slot);
-    let rank = testing::rank_of(keys, keys.len(), key);
-    if is_at(keys, rank, key) { rank } else { 65536 }
-}
-
-// The plain rule: the number of the refusal, or 0 and the opening is recorded. `lift` is the image's. The records end in eight counts, lane 1's first.
-fn rule(records: &mut [u32], rank: usize, card: Card, lift: u32) -> u8 {
-    if lift != 0 && lift != card.lift {
-        return 36;
-    }
-    let lane = card.lane as usize;
-    if lane < 1 {
-        return 29;
-    }
-    if 8 < lane {
-        return 29;
-    }
-    if records.len() < 8 {
-        return 21;
-    }
-    if records.len() <= rank {
-        return 24;
-    }
-    let refusal = due(records[rank], card);
-    if refusal != 0 {
-        return refusal;
-    }
-    let count = records.len() - 8 + lane - 1;
-    let openings = records[count];
-    records[count] = one_more(openings);
-    records[rank] = one_more(card.time);
-    0
-}
 
 fn is_answer(scanned: Scanned, refusal: u8, rank: usize) -> bool {
     match scanned {
@@ -94,27 +39,68 @@ fn is_scanned(image: &[u8], records: &mut [u32], card: Card, rank: usize, refusa
     is_answer(scanned, refusal, rank)
 }
 
-// Whether a scan gets the rule's answer, and leaves the records that the rule leaves.
-fn is_right(
+// A scan gets the rule's answer, and leaves the records that the rule leaves.
+fn scan_card(
+    tally: Tally,
     keys: &[u32],
     lift: u32,
     image: &[u8],
     records: &mut [u32],
     expected: &mut [u32],
     card: Card,
-) -> bool {
+) -> Tally {
     let rank = rank_of(keys, card);
-    let refusal = rule(expected, rank, card, lift);
+    let refusal = rule(keys, expected, rank, card, lift);
     if !is_scanned(image, records, card, rank, refusal) {
-        return false;
+        return expect(tally, SCANS, false);
     }
-    starts_with(records, expected)
+    let t = expect(tally, SCANS, starts_with(records, expected));
+    if is_by_another(expected, rank, card, refusal) {
+        return note(t, ANOTHER);
+    }
+    t
 }
 
-// A rank, two in three times one of the first four, so that some are scanned often.
-fn pick_rank(random: Random, keys: usize) -> usize {
-    let rank = pick(random, keys);
-    if rank % 3 == 0 { rank } else { rank % 4 }
+// The first of a holder's ranks from `from` on; the number of keys where there is none.
+fn rank_from(keys: &[u32], from: usize, holder: u32) -> usize {
+    let mut i = from;
+    while i < keys.len() {
+        if holder_of(keys[i]) == holder {
+            return i;
+        }
+        i += 1;
+    }
+    keys.len()
+}
+
+// The first rank from `from` on that has the holder of `rank`, or else the first of all that has.
+fn same_holder(keys: &[u32], rank: usize, from: usize) -> usize {
+    if keys.len() <= rank {
+        return rank;
+    }
+    let holder = holder_of(keys[rank]);
+    let found = rank_from(keys, from, holder);
+    if found < keys.len() {
+        return found;
+    }
+    rank_from(keys, 0, holder)
+}
+
+// A rank: one in three times any, one in three times one of the first four, so that some are scanned often, and else one that has the holder of these.
+fn pick_rank(random: Random, keys: &[u32]) -> usize {
+    let rank = pick(random, keys.len());
+    let kind = rank % 3;
+    if kind == 0 {
+        return rank;
+    }
+    let often = rank % 4;
+    if kind == 1 {
+        return often;
+    }
+    if rank / 4 % 2 == 0 {
+        return same_holder(keys, often, rank);
+    }
+    same_holder(keys, often, often + 1)
 }
 
 // A time: later with each turn, but for up to 300 seconds.
@@ -180,21 +166,17 @@ fn scan_row(
     let mut i: u32 = 0;
     while i < 150 {
         random = testing::next(random);
-        let rank = pick_rank(random, keys.len());
+        let rank = pick_rank(random, keys);
         random = testing::next(random);
         let card = card_of(image, lift, rank, i, random);
-        t = expect(
-            t,
-            SCANS,
-            is_right(keys, lift, image, records, expected, card),
-        );
+        t = scan_card(t, keys, lift, image, records, expected, card);
         i += 1;
     }
     t
 }
 
 // The same with records and counts of zeros.
-pub fn scans(tally: Tally, keys: &[u32], lift: u32, image: &[u8], seed: Random) -> Tally {
+fn scan_list(tally: Tally, keys: &[u32], lift: u32, image: &[u8], seed: Random) -> Tally {
     let mut records = [0u32; 4104];
     let mut expected = [0u32; 4104];
     if 4096 < keys.len() {
@@ -210,4 +192,21 @@ pub fn scans(tally: Tally, keys: &[u32], lift: u32, image: &[u8], seed: Random) 
         &mut expected[0..n],
         seed,
     )
+}
+
+// Whether the holder of rank 0 has several admissions.
+fn has_several(keys: &[u32]) -> bool {
+    0 < same_holder(keys, 0, 1)
+}
+
+// The same, where some must be refused by another of the holder's records if the holder of rank 0 has several.
+pub fn scans(tally: Tally, keys: &[u32], lift: u32, image: &[u8], seed: Random) -> Tally {
+    let t = scan_list(tally, keys, lift, image, seed);
+    if count_of(tally, ANOTHER) < count_of(t, ANOTHER) {
+        return t;
+    }
+    if has_several(keys) {
+        return note(t, DIFFERENCES);
+    }
+    t
 }

@@ -5,7 +5,7 @@ use testing::one_more;
 
 // Places 1 to 40 count the damaged images by the number that refused them; the places after them have the names below.
 pub struct Tally {
-    pub counts: [u32; 53],
+    pub counts: [u32; 54],
 }
 
 pub const LISTS: usize = 41;
@@ -20,26 +20,29 @@ pub const FINDS: usize = 45;
 
 pub const SCANS: usize = 46;
 
-pub const PAIRS: usize = 47;
+// Scans refused by another of the holder's records.
+pub const ANOTHER: usize = 47;
 
-pub const DAMAGED: usize = 48;
+pub const PAIRS: usize = 48;
 
-pub const SAME: usize = 49;
+pub const DAMAGED: usize = 49;
 
-pub const OTHER_LIFT: usize = 50;
+pub const SAME: usize = 50;
 
-pub const OTHER_LIST: usize = 51;
+pub const OTHER_LIFT: usize = 51;
 
-pub const DIFFERENCES: usize = 52;
+pub const OTHER_LIST: usize = 52;
+
+pub const DIFFERENCES: usize = 53;
 
 pub fn none() -> Tally {
-    Tally { counts: [0u32; 53] }
+    Tally { counts: [0u32; 54] }
 }
 
 // One more at a place.
 pub fn note(tally: Tally, place: usize) -> Tally {
     let mut counts = tally.counts;
-    if 53 <= place {
+    if 54 <= place {
         return tally;
     }
     counts[place] = one_more(counts[place]);
@@ -54,9 +57,17 @@ pub fn expect(tally: Tally, place: usize, is_right: bool) -> Tally {
     note(note(tally, place), DIFFERENCES)
 }
 
-pub fn differences(tally: Tally) -> u32 {
+// The count at a place.
+pub fn count_of(tally: Tally, place: usize) -> u32 {
     let counts = tally.counts;
-    counts[DIFFERENCES]
+    if 54 <= place {
+        return 0;
+    }
+    counts[place]
+}
+
+pub fn differences(tally: Tally) -> u32 {
+    count_of(tally, DIFFERENCES)
 }
 
 // A line of a count, with the line of the text that begins at `place`. Returns where the next line begins.
@@ -81,6 +92,7 @@ fn say_counts(tally: Tally) {
         listings\n\
         found by rank\n\
         scans\n\
+        refused by another of the holder's records\n\
         pairs of lists\n\
         damaged images\n\
         accepted, with the same list and lift\n\
