@@ -1,4 +1,5 @@
 // The gate's scans of a version 1 image, which passes at any lift's gate: the lockout rows of the paper, and questions 22 to 26 on both sides of their edges.
+// Both admissions are holder 0's, so the larger of their records counts for each.
 use crate::images::two_keys;
 use crate::judge::is_answer;
 use crate::say::Tally;
@@ -11,7 +12,7 @@ pub struct Door {
     pub records: [u32; 10],
 }
 
-// A scan of holder 0: what comes in, and what is expected. `number` is the rank for refusal 0.
+// A scan: what comes in with the holder, and what is expected. `number` is the rank for refusal 0.
 pub struct Scan {
     pub lane: u32,
     pub slot: u16,
@@ -35,10 +36,10 @@ pub fn with_records(door: Door, records: [u32; 10]) -> Door {
     Door { tally, records }
 }
 
-// A case: a scan gets its answer, and the records are then `after`.
+// A case: a scan of holder 0 gets its answer, and the records are then `after`.
 pub fn scan_case(door: Door, names: &[u8], asked: Scan, after: [u32; 10]) -> Door {
     let mut records = door.records;
-    let mut is_right = is_scanned(&mut records, asked);
+    let mut is_right = is_scanned(&two_keys(), &mut records, 0, asked);
     if is_right {
         is_right = starts_with(&records, &after);
     }
@@ -48,13 +49,12 @@ pub fn scan_case(door: Door, names: &[u8], asked: Scan, after: [u32; 10]) -> Doo
     }
 }
 
-// Whether a scan gets its answer.
-fn is_scanned(records: &mut [u32], asked: Scan) -> bool {
-    let image = two_keys();
+// Whether a scan of a holder gets its answer.
+pub fn is_scanned(image: &[u8], records: &mut [u32], holder: u16, asked: Scan) -> bool {
     let scanned = gate::scan(
-        &image,
+        image,
         records,
-        0,
+        holder,
         asked.slot,
         asked.time,
         asked.lockout,
@@ -105,14 +105,14 @@ fn records_of(first: u32, second: u32, openings: u32) -> [u32; 10] {
     [first, second, openings, 0, 0, 0, 0, 0, 0, 0]
 }
 
-// Lockout 600, opened at 1000.
+// Lockout 600, slot 0 opened at 1000.
 pub fn lockouts(tally: Tally) -> Tally {
     let names: &[u8] = b"\
         lockout 600: opened at 1000, record 1001\n\
         lockout 600: at 999, 25\n\
         lockout 600: at 1000 again, 26\n\
         lockout 600: at 1599, 26, and the record stays 1001\n\
-        lockout 600: another rank opens at 1599\n\
+        lockout 600: the holder's other slot at 1599, 26\n\
         lockout 600: at 1600 open, record 1601\n\
         lockout 0: at 1600 open again\n";
     let mut d = closed(tally);
@@ -120,9 +120,9 @@ pub fn lockouts(tally: Tally) -> Tally {
     d = scan_case(d, names, refused(0, 999, 600, 25), records_of(1001, 0, 1));
     d = scan_case(d, names, refused(0, 1000, 600, 26), records_of(1001, 0, 1));
     d = scan_case(d, names, refused(0, 1599, 600, 26), records_of(1001, 0, 1));
-    d = scan_case(d, names, opens(1, 1599, 600, 1), records_of(1001, 1600, 2));
-    d = scan_case(d, names, opens(0, 1600, 600, 0), records_of(1601, 1600, 3));
-    d = scan_case(d, names, opens(0, 1600, 0, 0), records_of(1601, 1600, 4));
+    d = scan_case(d, names, refused(1, 1599, 600, 26), records_of(1001, 0, 1));
+    d = scan_case(d, names, opens(0, 1600, 600, 0), records_of(1601, 0, 2));
+    d = scan_case(d, names, opens(0, 1600, 0, 0), records_of(1601, 0, 3));
     d.tally
 }
 
@@ -148,7 +148,7 @@ pub fn limits(tally: Tally) -> Tally {
     d = scan_case(d, names, refused(2, 9, 0, 24), records_of(most, 0, 1));
     d = with_records(d, records_of(most, 0, most));
     d = scan_case(d, names, refused(1, 9, 0, 23), records_of(most, 0, most));
-    d = with_records(d, records_of(most, 0, most - 1));
-    d = scan_case(d, names, opens(1, 9, 0, 1), records_of(most, 10, most));
+    d = with_records(d, records_of(5, 0, most - 1));
+    d = scan_case(d, names, opens(1, 9, 0, 1), records_of(5, 10, most));
     d.tally
 }

@@ -1,6 +1,7 @@
 // A test: the sample plates that are not proved as theorems, packings at their edges, and every refusal number, through the public jobs.
 // Each case prints a line, and the last line counts those that were right.
 mod gates;
+mod holders;
 mod images;
 mod judge;
 mod lanes;
@@ -30,6 +31,9 @@ fn main() {
     tally = questions::ranks(tally);
     tally = gates::lockouts(tally);
     tally = gates::limits(tally);
+    tally = holders::passed_back(tally);
+    tally = holders::other_holders(tally);
+    tally = holders::one_admission(tally);
     tally = lanes::lanes(tally);
     tally = lanes::lengths(tally);
     tally = lanes::empty_list(tally);
