@@ -10,6 +10,7 @@ mod plates;
 mod questions;
 mod refusals;
 mod say;
+mod spread;
 
 fn main() {
     let mut tally = say::none();
@@ -34,6 +35,8 @@ fn main() {
     tally = holders::passed_back(tally);
     tally = holders::other_holders(tally);
     tally = holders::one_admission(tally);
+    tally = spread::three_records(tally);
+    tally = spread::several_pages(tally);
     tally = lanes::lanes(tally);
     tally = lanes::lengths(tally);
     tally = lanes::empty_list(tally);
