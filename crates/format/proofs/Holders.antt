@@ -13,9 +13,10 @@ use Rattle.format.specs.Seq.{largest, rankIn}
 use Rattle.format.specs.Key.{holderOf}
 use Rattle.format.specs.Image.{keysOf}
 use Rattle.format.specs.Scan.{holderRecord, isHolders, keysOfHolder, largestRecord, recordOf}
-use Rattle.format.proofs.Largest.{le-largest, map-agree, map-le}
+use Rattle.format.proofs.Lists.{map-same}
+use Rattle.format.proofs.Largest.{le-largest, map-le}
 use Rattle.format.proofs.Trie.{Asc}
-use Rattle.format.proofs.Members.{mem-select, select-mem}
+use Rattle.format.proofs.Members.{mem-all, mem-select, select-mem}
 use Rattle.format.proofs.Checked.{cond-no, cond-yes}
 use Rattle.format.proofs.Descent.{at-rank}
 
@@ -75,8 +76,8 @@ module _ {img records after : List ℕ} {key time : ℕ} (o : Renewed img record
   holder-same : (holder : ℕ) → (holderOf key ≡ holder → ⊥) → holderRecord img after holder ≡ holderRecord img records holder
   unfolding holderRecord largestRecord
   holder-same holder ne =
-      ap largest (map-agree (recordOf img after) (recordOf img records) (keysOfHolder img holder)
-      (λ k m. let (t, e) = mem-holder img holder k m in other k t (λ d. ne (ap holderOf d ∙ e))))
+      ap largest (map-same (recordOf img after) (recordOf img records) (keysOfHolder img holder) (mem-all (λ k. recordOf img after k ≡ recordOf img records k) (keysOfHolder img holder)
+      (λ k m. let (t, e) = mem-holder img holder k m in other k t (λ d. ne (ap holderOf d ∙ e)))))
 
   -- a holder's record after it
   pub holder-after : (holder : ℕ) → holderRecord img after holder ≡ cond (eqb (holderOf key) holder) (time + 1) (holderRecord img records holder)

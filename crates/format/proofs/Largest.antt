@@ -28,11 +28,6 @@ unfolding largest
 map-le f m [] h = omega arith
 map-le f m (x ∷ l) h = omega (arith, h x (List·Memᴰ·head refl), map-le f m l (λ k t. h k (List·Memᴰ·tail t)))
 
--- functions that agree on a list give the same numbers
-pub map-agree : (f g : ℕ → ℕ) (l : List ℕ) → ((k : ℕ) → List·Memᴰ k l → f k ≡ g k) → map f l ≡ map g l
-map-agree f g [] h = refl
-map-agree f g (x ∷ l) h = λ i. h x (List·Memᴰ·head refl) i ∷ map-agree f g l (λ k m. h k (List·Memᴰ·tail m)) i
-
 -- ---- of records
 
 module _ (img records : List ℕ) where

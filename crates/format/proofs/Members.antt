@@ -151,9 +151,14 @@ unwoven-mem p (x ∷ keys) f m =
     ⊎-elim (λ (e : p ≡ (holderOf x, slotOf x)). List·Memᴰ·head ((λ i. keyOf (e i .0) (e i .1)) ∙ keyOf-back x (f .0)))
     (λ (t : List·Memᴰ p (unwoven keys)). List·Memᴰ·tail (unwoven-mem p keys (f .1) t)) (List·Memᴰ·cases-cons m)
 
+-- a fact of all is one of each member, and back
 pub all-mem : {A : Type 0} (P : A → Type 0) (x : A) (l : List A) → All P l → List·Memᴰ x l → P x
 all-mem P x [] a m = absurd (List·Memᴰ·not-nil m)
 all-mem P x (y ∷ l) a m = ⊎-elim (λ (e : x ≡ y). subst P (sym e) (a .0)) (λ (t : List·Memᴰ x l). all-mem P x l (a .1) t) (List·Memᴰ·cases-cons m)
+
+pub mem-all : {A : Type 0} (P : A → Type 0) (l : List A) → ((x : A) → List·Memᴰ x l → P x) → All P l
+mem-all P [] f = tt
+mem-all P (y ∷ l) f = (f y (List·Memᴰ·head refl), mem-all P l (λ x m. f x (List·Memᴰ·tail m)))
 
 -- ---- parts of a list
 
