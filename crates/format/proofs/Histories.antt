@@ -1,14 +1,14 @@
 -- Records and counts by lane after any history of scans: they are told by the openings alone, and a refused scan changes nothing.
 -- Assumes nothing.
 use mathlib.Core.Path.{_≡_, refl, sym, ap, _∙_}
-use mathlib.Core.Bool.{Bool, true, false, _||_, cond}
+use mathlib.Core.Bool.{Bool, true, false, cond}
 use mathlib.Core.Option.{none}
 use mathlib.Core.List.{List, [], _∷_, _++_}
-use Prim.Native.Nat.{ℕ, suc, _+_, _≤_, _<_}
+use Prim.Native.Nat.{ℕ, _+_, _≤_, _<_}
 use native.Mathlib.Omega.{arith}
 use native.Mathlib.Decide.{ℕ-discrete}
-use lib.Dec.{eqb, ltb}
-use borrow.Author.Tests.{eq-eqb, ne-eqb, eqb-true, le-ltb, ltb-true}
+use lib.Dec.{eqb}
+use borrow.Author.Tests.{eq-eqb, ne-eqb, eqb-true, ltb-true}
 use lib.ListN.{length, getD, set, getD-replicate, length-append, length-replicate, length-set}
 use lib.Seq.{getD-set-same, getD-set-other}
 use Rattle.format.specs.Seq.{All, consIf, isIn, rankIn, select}
@@ -20,26 +20,13 @@ use Rattle.format.specs.Scan.{gateQuestions, isLane, lanePlace, largest3
 use Rattle.format.specs.History.{Card, History, Images, Opening, Recorded, afterCard, afterCards, atRank, inLane, keyOn, noRecords, openingOf, openings, recordAfter, scanOf}
 use Rattle.format.proofs.Lists.{all-left, all-right}
 use Rattle.format.proofs.Questions.{none-of-yes, range-of, yes-of-none}
-use Rattle.format.proofs.Members.{rank-le, select-append}
+use Rattle.format.proofs.Members.{select-append}
 use Rattle.format.proofs.Checked.{checked, cond-no, cond-yes}
 use Rattle.format.proofs.Back.{listed}
 use Rattle.format.proofs.Jobs.{yes-of-returns}
+use Rattle.format.proofs.Descent.{at-rank, mem-isIn}
 
 -- ---- one scan
-
--- the rank of an element is below the length
-pub rank-below : (xs : List ℕ) (x : ℕ) → isIn x xs ≡ true → rankIn xs x < length xs
-unfolding rankIn select consIf isIn
-rank-below [] x h = absurd (let z : _≡_ {A = ℕ} 0 1 = cc in omega arith)
-rank-below (y ∷ ys) x h =
-    elim (ℕ-discrete x y) [
-      | yes e ↦ rw (le-ltb y x (omega arith)) (omega (arith, rank-le ys x))
-      | no e ↦ go (ltb y x) (rank-below ys x (sym (ap (_|| isIn x ys) (ne-eqb x y e)) ∙ h))
-    ]
-  where
-    go : (t : Bool) → length (select (λ z. ltb z x) ys) < length ys → length (consIf t y (select (λ z. ltb z x) ys)) < suc (length ys)
-    go true h = omega arith
-    go false h = omega arith
 
 -- a lane's number
 pub lane-range : (lane : ℕ) → isLane lane ≡ true → (1 ≤ lane) × (lane ≤ 8)
@@ -104,8 +91,9 @@ module _ {lift : ℕ} {img records : List ℕ} {lane key time lockout rank : ℕ
   pub opened-facts : All Byte img → OpeningFits (keyCount img) records rank lane
   opened-facts a =
       let fit = records-fit (liftFits lift img) (keyCount img) records lane (isIn key (keysOf img)) time gate-yes in
+      let keys = listed img a (checked img (o .image-yes)) .keys in
       record {
-        rank-small = omega (arith, rank-below (keysOf img) key opens-listed, o .rank-is, listed img a (checked img (o .image-yes)) .keys .count-is);
+        rank-small = omega (arith, at-rank (keysOf img) key (keys .asc) (mem-isIn key (keysOf img) opens-listed) .within, o .rank-is, keys .count-is);
         size = fit .size;
         lane-right = fit .lane-right;
       }
