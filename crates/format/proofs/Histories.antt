@@ -12,12 +12,12 @@ use borrow.Author.Tests.{eq-eqb, ne-eqb, eqb-true, ltb-true}
 use lib.ListN.{length, getD, set, getD-replicate, length-append, length-replicate, length-set}
 use lib.Seq.{getD-set-same, getD-set-other}
 use Rattle.format.specs.Seq.{All, consIf, isIn, rankIn, select}
-use Rattle.format.specs.Key.{holderOf, keyOf}
+use Rattle.format.specs.Key.{keyOf}
 use Rattle.format.specs.Page.{Byte}
 use Rattle.format.specs.Image.{keyCount, keysOf}
 use Rattle.format.specs.Question.{Outcome, Yes, firstNo, imageQuestions, refused, returns}
 use Rattle.format.specs.Scan.{gateQuestions, isLane, lanePlace, largest32, liftFits, opened, recordsAfter, recordsAfterScan, recordsLength, scan, scanQuestions}
-use Rattle.format.specs.History.{Card, History, Images, Opening, Recorded, afterCard, afterCards, atRank, inLane, keyOn, noRecords, openingOf, openings, recordAfter, scanOf}
+use Rattle.format.specs.History.{Card, History, Images, Opening, Recorded, afterCard, afterCards, atRank, holderOn, inLane, noRecords, openingOf, openings, recordAfter, scanOf}
 use Rattle.format.proofs.Lists.{all-left, all-right}
 use Rattle.format.proofs.Questions.{none-of-yes, range-of, yes-of-none}
 use Rattle.format.proofs.Members.{select-append}
@@ -160,7 +160,7 @@ module _ (n : ℕ) where
           unfold openingOf recordsAfter atRank inLane select in
           let same : keyCount (card .image) ≡ n = omega (arith, f rank refl .size, size) in
           let o : OpeningFits n records rank (card .lane) = rw same at (f rank refl) in
-          let opening : Opening = record { rank = rank; lane = card .lane; time = card .time; holder = holderOf (keyOn card) } in
+          let opening : Opening = record { rank = rank; lane = card .lane; time = card .time; holder = holderOn card } in
           rw same record {
             size = opened-size n records rank (card .lane) (card .time) o;
             lanes = λ l h. opened-lane n records rank (card .lane) (card .time) o l h ∙ ap (getD records (lanePlace n l) 0 +_) (length-one (eqb (card .lane) l) opening);

@@ -1,41 +1,31 @@
 -- Holders over any history of scans of one image: a holder's record is told by the openings of the holder's admissions, and a scan opens exactly when it should.
 -- Assumes nothing.
 use mathlib.Core.Path.{_≡_, refl, sym, ap, subst, _∙_}
-use mathlib.Core.Bool.{Bool, true, false, _||_, _&&_}
-use mathlib.Core.Option.{some}
+use mathlib.Core.Bool.{Bool, true, false, _&&_}
+use mathlib.Core.Option.{Option}
 use mathlib.Core.List.{List, [], _∷_, _++_}
-use Prim.Native.Nat.{ℕ, _+_, _-_, _≤_}
+use Prim.Native.Nat.{ℕ, suc, _+_, _-_, _≤_}
 use native.Mathlib.Omega.{arith}
-use native.Mathlib.Decide.{decLe, ℕ-discrete}
-use lib.Dec.{eqb, leb}
-use borrow.Author.Tests.{eq-eqb, eqb-true, le-leb, lt-leb, leb-true, ne-eqb}
-use Rattle.format.specs.Seq.{All, consIf, isIn, rankIn, select}
+use lib.Dec.{eqb}
+use borrow.Author.Tests.{eqb-true}
+use Rattle.format.specs.Seq.{All, consIf, isIn, select}
 use Rattle.format.specs.Key.{holderOf}
 use Rattle.format.specs.Page.{Byte}
 use Rattle.format.specs.Image.{keyCount, keysOf}
-use Rattle.format.specs.Question.{Outcome, Yes, firstNo, imageQuestions, isZero, outcome, refused, returns, settle}
-use Rattle.format.specs.Scan.{gateQuestions, holderRecord, liftFits, lockoutOver, lockoutQuestions, opened, recordsAfter, recordsAfterScan, recordsLength, scan, scanQuestions, timeRight}
-use Rattle.format.specs.History.{Card, Opening, afterCard, afterCards, keyOn, noRecords, openingOf, openings, recordAfter, scanOf}
-use Rattle.format.specs.Holders.{Asked24, Bring, Holders, NonDecreasing, Told, hasRun, ofHolder, opens, openingsSince, recordsSince}
-use Rattle.format.proofs.Lists.{all-left, all-right}
-use Rattle.format.proofs.Questions.{after-no, after-yes, none-of-yes}
+use Rattle.format.specs.Question.{Outcome, Yes, refused, returns}
+use Rattle.format.specs.Scan.{gateQuestions, holderRecord, liftFits, lockoutQuestions, opened, recordsAfter, recordsAfterScan, recordsLength, scanQuestions}
+use Rattle.format.specs.History.{Card, Opening, afterCard, afterCards, holderOn, keyOn, noRecords, openingOf, openings, recordAfter, scanOf}
+use Rattle.format.specs.Holders.{Bring, Holders, NonDecreasing, Told, hasRun, lastTime, ofHolder, openingsSince, recordsSince, timeIn}
+use Rattle.format.proofs.Lists.{all-right}
 use Rattle.format.proofs.Members.{select-append}
 use Rattle.format.proofs.Checked.{checked}
 use Rattle.format.proofs.Back.{listed}
 use Rattle.format.proofs.Descent.{mem-isIn}
 use Rattle.format.proofs.Histories.{ScanYes, opened-facts, opened-rank, opens-facts, opens-listed, record-append, record-one}
+use Rattle.format.proofs.Opens.{opens-is, right-le}
 use Rattle.format.proofs.Holders.{Renewed, holder-after, holder-zeros}
 
 -- ---- one scan
-
--- 25: the record is at most the time + 1
-right-le : (last time : ℕ) → timeRight last time ≡ true → last ≤ time + 1
-unfolding timeRight isZero
-right-le last time h =
-    elim (ℕ-discrete last 0) [
-      | yes z ↦ omega arith
-      | no z ↦ leb-true last (time + 1) (sym (ap (_|| leb last (time + 1)) (ne-eqb last 0 z)) ∙ h)
-    ]
 
 module _ {lift : ℕ} {img records : List ℕ} {lane key time lockout rank : ℕ} (o : ScanYes lift img records lane key time lockout rank) (a : All Byte img) where
   -- what it does to records
@@ -68,13 +58,13 @@ one-card card a records holder = go (scanOf records card) (λ rank e. opens-fact
     go (returns rank) f =
         unfold openingOf recordsAfter ofHolder select in
         let o = renewed (f rank refl) a in
-        let opening : Opening = record { rank = rank; lane = card .lane; time = card .time; holder = holderOf (keyOn card) } in
+        let opening : Opening = record { rank = rank; lane = card .lane; time = card .time; holder = holderOn card } in
         let x = holderRecord (card .image) records holder in
-        let right : eqb (holderOf (keyOn card)) holder ≡ true → holderRecord (card .image) records holder - 1 ≤ card .time =
-        λ t. omega (arith, o .before, ap (holderRecord (card .image) records) (eqb-true (holderOf (keyOn card)) holder t)) in
+        let right : eqb (holderOn card) holder ≡ true → holderRecord (card .image) records holder - 1 ≤ card .time =
+        λ t. omega (arith, o .before, ap (holderRecord (card .image) records) (eqb-true (holderOn card) holder t)) in
         record {
-          record-is = holder-after o holder ∙ record-one (eqb (holderOf (keyOn card)) holder) x opening;
-          times = times-one (eqb (holderOf (keyOn card)) holder) (x - 1) opening right;
+          record-is = holder-after o holder ∙ record-one (eqb (holderOn card) holder) x opening;
+          times = times-one (eqb (holderOn card) holder) (x - 1) opening right;
         }
 
 -- ---- any history
@@ -106,64 +96,6 @@ all-cards img a records (card ∷ cards) b holder =
       times = subst (NonDecreasing (x - 1)) (sym both) (times-append x (ofHolder holder first) (ofHolder holder later) (one .times) (subst (λ (y : ℕ). NonDecreasing (y - 1) (ofHolder holder later)) (one .record-is) (rest .times)));
     }
 
--- ---- when a scan opens
-
--- 26 gets no yes where 25 gets a no
-over-right : (last time lockout : ℕ) → lockoutOver last time lockout ≡ true → timeRight last time ≡ true
-unfolding lockoutOver timeRight isZero
-over-right last time lockout h =
-    elim (ℕ-discrete last 0) [
-      | yes z ↦ rw (eq-eqb last 0 z)
-      | no z ↦ rw (ne-eqb last 0 z)
-          (le-leb last (time + 1) (let k : last + lockout ≤ time + 1 = leb-true (last + lockout) (time + 1) (sym (ap (_|| leb (last + lockout) (time + 1)) (ne-eqb last 0 z)) ∙ h) in omega arith))
-    ]
-
--- 25 and 26 alone
-opens-later : (s t : Bool) (rank : ℕ) → (t ≡ true → s ≡ true) → opens (outcome (firstNo ((25, s) ∷ (26, t) ∷ [])) rank) ≡ t
-unfolding firstNo outcome opens
-opens-later true true rank f = refl
-opens-later true false rank f = refl
-opens-later false true rank f = f refl
-opens-later false false rank f = refl
-
--- where each question before 24 gets a yes, 24 and 26 decide
-module _ (fits : Bool) (n : ℕ) (records : List ℕ) (lane time : ℕ) (y : All Yes (gateQuestions fits n records lane true time)) where
-  -- an admission that is not listed gets 24
-  not-listed : firstNo (gateQuestions fits n records lane false time) ≡ some 24
-  unfolding gateQuestions firstNo
-  not-listed = rw (y .0, y .1 .0, y .1 .1 .0, y .1 .1 .1 .0, y .1 .1 .1 .1 .0)
-
-  -- 24, then 25 and 26
-  opens-gate : (t : Bool) (last lockout rank : ℕ) → opens (outcome (firstNo (gateQuestions fits n records lane t time ++ lockoutQuestions last time lockout)) rank) ≡ (t && lockoutOver last time lockout)
-  unfolding lockoutQuestions outcome opens
-  opens-gate true last lockout rank =
-      ap (λ o. opens (outcome o rank)) (after-yes (gateQuestions fits n records lane true time) (lockoutQuestions last time lockout) (none-of-yes _ y))
-      ∙ opens-later (timeRight last time) (lockoutOver last time lockout) rank (over-right last time lockout)
-  opens-gate false last lockout rank = ap (λ o. opens (outcome o rank)) (after-no (gateQuestions fits n records lane false time) (lockoutQuestions last time lockout) 24 not-listed)
-
--- the scan
-opens-is : (records : List ℕ) (card : Card) → Asked24 records card
-    → opens (scanOf records card) ≡ (isIn (keyOn card) (keysOf (card .image)) && lockoutOver (holderRecord (card .image) records (holderOf (keyOn card))) (card .time) (card .lockout))
-unfolding scan scanQuestions settle
-opens-is records card y =
-    let img = card .image in
-    let image-yes = none-of-yes (imageQuestions img) (all-left Yes (imageQuestions img) _ y) in
-    ap (λ o. opens (outcome o (rankIn (keysOf img) (keyOn card)))) (after-yes (imageQuestions img) _ image-yes)
-    ∙ opens-gate (liftFits (card .lift) img) (keyCount img) records (card .lane) (card .time) (all-right Yes (imageQuestions img) _ y) (isIn (keyOn card) (keysOf img)) (holderRecord img records (holderOf (keyOn card))) (card .lockout)
-    (rankIn (keysOf img) (keyOn card))
-
--- of the holder's record, told by the holder's openings
-over-run : (os : List Opening) (time lockout : ℕ) → lockoutOver (recordAfter 0 os) time lockout ≡ hasRun lockout time os
-unfolding recordAfter hasRun lockoutOver isZero
-over-run [] time lockout = refl
-over-run (o ∷ []) time lockout =
-    rw (ne-eqb (o .time + 1) 0 (λ e. omega arith))
-    (elim (decLe (o .time + lockout) time) [
-      | yes h ↦ le-leb (o .time + 1 + lockout) (time + 1) (omega arith) ∙ sym (le-leb (o .time + lockout) time h)
-      | no h ↦ lt-leb (o .time + 1 + lockout) (time + 1) (omega arith) ∙ sym (lt-leb (o .time + lockout) time (omega arith))
-    ])
-over-run (o ∷ p ∷ os) time lockout = over-run (p ∷ os) time lockout
-
 -- ---- the statement
 
 -- no holder has a record yet
@@ -176,6 +108,16 @@ told-zeros : (img : List ℕ) → All Byte img → (cards : List Card) → Bring
 told-zeros img a cards b holder =
     subst (λ (x : ℕ). Told x (openingsSince img cards holder) (holderRecord img (recordsSince img cards) holder)) (zeros-record img holder) (all-cards img a (noRecords (keyCount img)) cards b holder)
 
+-- it tells the holder's last opening
+record-last : (os : List Opening) → lastTime os ≡ timeIn (recordAfter 0 os)
+unfolding lastTime timeIn recordAfter
+record-last [] = refl
+record-last (o ∷ []) = ap timeIn (let e : suc (o .time) ≡ o .time + 1 = omega arith in e)
+record-last (o ∷ p ∷ os) = record-last (p ∷ os)
+
+pub last-told : (img : List ℕ) → All Byte img → (cards : List Card) → Bring img cards → (holder : ℕ) → lastTime (openingsSince img cards holder) ≡ timeIn (holderRecord img (recordsSince img cards) holder)
+last-told img a cards b holder = record-last (openingsSince img cards holder) ∙ sym (ap timeIn (told-zeros img a cards b holder .record-is))
+
 pub holders : Holders
 unfolding recordAfter
 holders img a = record {
@@ -185,7 +127,6 @@ holders img a = record {
   opens-exactly = λ cards b card e y.
       let key = keyOn card in
       opens-is (recordsSince img cards) card y
-      ∙ ap (λ (i : List ℕ). isIn key (keysOf i) && lockoutOver (holderRecord i (recordsSince img cards) (holderOf key)) (card .time) (card .lockout)) e
-      ∙ ap (isIn key (keysOf img) &&_)
-      (ap (λ (x : ℕ). lockoutOver x (card .time) (card .lockout)) (told-zeros img a cards b (holderOf key) .record-is) ∙ over-run (openingsSince img cards (holderOf key)) (card .time) (card .lockout));
+      ∙ ap (λ (i : List ℕ). isIn key (keysOf i) && hasRun (card .lockout) (card .time) (timeIn (holderRecord i (recordsSince img cards) (holderOn card)))) e
+      ∙ ap (λ (last : Option ℕ). isIn key (keysOf img) && hasRun (card .lockout) (card .time) last) (sym (last-told img a cards b (holderOn card)));
 }

@@ -25,9 +25,12 @@ pub record Card : Type 0 where
   pub lockout : ℕ
   pub lane : ℕ
 
--- the key on the card
+-- the key on the card, and its holder
 abbrev pub keyOn : Card → ℕ
 keyOn card = keyOf (card .holder) (card .slot)
+
+abbrev pub holderOn : Card → ℕ
+holderOn card = holderOf (keyOn card)
 
 abbrev pub scanOf : List ℕ → Card → Outcome ℕ
 scanOf records card = scan (card .lift) (card .image) records (card .lane) (card .holder) (card .slot) (card .time) (card .lockout)
@@ -52,7 +55,7 @@ pub record Opening : Type 0 where
 -- the opening that a scan is, if it is not refused
 unfoldable pub openingOf : Outcome ℕ → Card → List Opening
 openingOf (refused n) card = []
-openingOf (returns rank) card = record { rank = rank; lane = card .lane; time = card .time; holder = holderOf (keyOn card) } ∷ []
+openingOf (returns rank) card = record { rank = rank; lane = card .lane; time = card .time; holder = holderOn card } ∷ []
 
 -- the openings among the cards, in order
 unfoldable pub openings : List ℕ → List Card → List Opening

@@ -1,17 +1,17 @@
 -- Holders over a gate's history: the statement of what a holder's record tells, and of when a scan opens. The proof is proofs/HolderHistories.antt.
 -- Assumes nothing.
 use mathlib.Core.Path.{_≡_}
-use Prim.Native.Nat.{ℕ, _+_, _-_, _≤_}
+use Prim.Native.Nat.{ℕ, zero, suc, _+_, _-_, _≤_}
 use mathlib.Core.Bool.{Bool, true, false, _&&_}
+use mathlib.Core.Option.{Option, none, some}
 use mathlib.Core.List.{List, [], _∷_, _++_}
 use lib.Dec.{eqb, leb}
 use Rattle.format.specs.Seq.{All, isIn, select}
-use Rattle.format.specs.Key.{holderOf}
 use Rattle.format.specs.Page.{Byte}
 use Rattle.format.specs.Image.{keyCount, keysOf}
 use Rattle.format.specs.Question.{Outcome, Yes, imageQuestions, refused, returns}
 use Rattle.format.specs.Scan.{gateQuestions, holderRecord, liftFits}
-use Rattle.format.specs.History.{Card, Opening, afterCards, keyOn, noRecords, openings, recordAfter, scanOf}
+use Rattle.format.specs.History.{Card, Opening, afterCards, holderOn, keyOn, noRecords, openings, recordAfter, scanOf}
 
 -- ---- a holder's openings
 
@@ -24,11 +24,21 @@ abbrev pub NonDecreasing : ℕ → List Opening → Type 0
 NonDecreasing t [] = Unit {0}
 NonDecreasing t (o ∷ os) = (t ≤ o .time) × NonDecreasing (o .time) os
 
+-- the time of the last of some openings, if there is one
+unfoldable pub lastTime : List Opening → Option ℕ
+lastTime [] = none
+lastTime (o ∷ []) = some (o .time)
+lastTime (o ∷ p ∷ os) = lastTime (p ∷ os)
+
+-- the time that a record tells: none where it is 0, for never, else what it is one above
+unfoldable pub timeIn : ℕ → Option ℕ
+timeIn zero = none
+timeIn (suc time) = some time
+
 -- whether the lockout has run at a time: there was no opening, or the last was at least the lockout before
-unfoldable pub hasRun : ℕ → ℕ → List Opening → Bool
-hasRun lockout time [] = true
-hasRun lockout time (o ∷ []) = leb (o .time + lockout) time
-hasRun lockout time (o ∷ p ∷ os) = hasRun lockout time (p ∷ os)
+unfoldable pub hasRun : ℕ → ℕ → Option ℕ → Bool
+hasRun lockout time none = true
+hasRun lockout time (some last) = leb (last + lockout) time
 
 -- ---- a scan
 
@@ -75,7 +85,7 @@ pub record HoldersOf (img : List ℕ) : Type 0 where
   -- after scans from a buffer of zeros, one that no question before 24 refuses opens exactly when its admission is listed, and its holder has never
   -- opened or the lockout has run since the holder's last opening
   pub opens-exactly : (cards : List Card) → Bring img cards → (card : Card) → card .image ≡ img → Asked24 (recordsSince img cards) card
-      → opens (scanOf (recordsSince img cards) card) ≡ (isIn (keyOn card) (keysOf img) && hasRun (card .lockout) (card .time) (openingsSince img cards (holderOf (keyOn card))))
+      → opens (scanOf (recordsSince img cards) card) ≡ (isIn (keyOn card) (keysOf img) && hasRun (card .lockout) (card .time) (lastTime (openingsSince img cards (holderOn card))))
 
 -- the statement: of any scans one after the other that bring one image, any bytes
 abbrev pub Holders : Type 0
