@@ -16,7 +16,7 @@ use Rattle.format.specs.Key.{keyOf}
 use Rattle.format.specs.Page.{Byte}
 use Rattle.format.specs.Image.{keyCount, keysOf}
 use Rattle.format.specs.Question.{Outcome, Yes, firstNo, imageQuestions, refused, returns}
-use Rattle.format.specs.Scan.{gateQuestions, isLane, lanePlace, largest32, liftFits, opened, recordsAfter, recordsAfterScan, recordsLength, scan, scanQuestions}
+use Rattle.format.specs.Scan.{RecordsFit, gateQuestions, isLane, lanePlace, largest32, liftFits, opened, recordsAfter, recordsAfterScan, recordsLength, scan, scanQuestions}
 use Rattle.format.specs.History.{Card, History, Images, Opening, Recorded, afterCard, afterCards, atRank, holderOn, inLane, noRecords, openingOf, openings, recordAfter, scanOf}
 use Rattle.format.proofs.Lists.{all-left, all-right}
 use Rattle.format.proofs.Questions.{none-of-yes, range-of, yes-of-none}
@@ -34,20 +34,16 @@ unfolding isLane
 lane-range lane h = range-of 8 lane h
 
 -- what a yes to 29 and 21 to 23 says of the lane, the records and the time
-pub record RecordsFit (keys : ℕ) (records : List ℕ) (lane time : ℕ) : Type 0 where
-  pub lane-right : isLane lane ≡ true
-  pub size : length records ≡ keys + 8
-  pub early : time < largest32
-  pub few : getD records (lanePlace keys lane) 0 < largest32
-
 module _ (fits : Bool) (keys : ℕ) (records : List ℕ) (lane : ℕ) (listed : Bool) (time : ℕ) where
   pub records-fit : All Yes (gateQuestions fits keys records lane listed time) → RecordsFit keys records lane time
-  unfolding gateQuestions recordsLength
+  unfolding gateQuestions
   records-fit y = record {
-    lane-right = y .1 .0;
-    size = eqb-true (length records) (keys + 8) (y .1 .1 .0);
-    early = ltb-true time largest32 (y .1 .1 .1 .0);
-    few = ltb-true (getD records (lanePlace keys lane) 0) largest32 (y .1 .1 .1 .1 .0);
+    size = eqb-true (length records) (recordsLength keys) (y .1 .1 .0);
+    ends = record {
+      lane-valid = y .1 .0;
+      count-below = ltb-true (getD records (lanePlace keys lane) 0) largest32 (y .1 .1 .1 .1 .0);
+      time-below = ltb-true time largest32 (y .1 .1 .1 .0);
+    };
   }
 
 -- a scan that opens: each of its questions got a yes, and its rank
@@ -95,7 +91,7 @@ module _ {lift : ℕ} {img records : List ℕ} {lane key time lockout rank : ℕ
       record {
         rank-small = omega (arith, at-rank (keysOf img) key (keys .asc) (mem-isIn key (keysOf img) opens-listed) .within, o .rank-is, keys .count-is);
         size = fit .size;
-        lane-right = fit .lane-right;
+        lane-right = fit .ends .lane-valid;
       }
 
 -- ---- the records after an opening
@@ -193,7 +189,7 @@ all-scans n records size (card ∷ cards) a =
 -- ---- the statement
 
 pub history : History
-unfolding noRecords recordAfter recordsLength
+unfolding noRecords recordAfter
 history = record {
   from-zeros = λ n cards a.
       let told = all-scans n (noRecords n) (length-replicate (n + 8) 0) cards a in

@@ -1,7 +1,8 @@
 -- The gate's scan: its questions, what it returns, and the record buffer at exit.
 -- Assumes nothing.
-use Prim.Native.Nat.{ℕ, _+_, _-_}
-use mathlib.Core.Bool.{Bool, _||_}
+use mathlib.Core.Path.{_≡_}
+use Prim.Native.Nat.{ℕ, _+_, _-_, _<_}
+use mathlib.Core.Bool.{Bool, true, _||_}
 use mathlib.Core.List.{List, [], _∷_, _++_, map}
 use lib.Dec.{leb, ltb, eqb}
 use lib.ListN.{length, getD, set}
@@ -17,7 +18,7 @@ largest32 = 4294967295
 -- ---- the record buffer of an image with n keys
 
 -- a record for each rank, then eight counts of openings, lane 1's first
-unfoldable pub recordsLength : ℕ → ℕ
+abbrev pub recordsLength : ℕ → ℕ
 recordsLength n = n + 8
 
 -- whether a number is a lane's: 1 to 8
@@ -27,6 +28,17 @@ isLane lane = oneTo 8 lane
 -- the place of a lane's count
 abbrev pub lanePlace : ℕ → ℕ → ℕ
 lanePlace n lane = n + (lane - 1)
+
+-- the lane is valid, its count and the time are below their ends
+pub record BelowEnds (n : ℕ) (records : List ℕ) (lane time : ℕ) : Type 0 where
+  pub lane-valid : isLane lane ≡ true
+  pub count-below : getD records (lanePlace n lane) 0 < largest32
+  pub time-below : time < largest32
+
+-- what a yes to 29 and 21 to 23 says: so it is, and the buffer has its length
+pub record RecordsFit (n : ℕ) (records : List ℕ) (lane time : ℕ) : Type 0 where
+  pub size : length records ≡ recordsLength n
+  pub ends : BelowEnds n records lane time
 
 -- ---- the questions, of an image with n keys
 

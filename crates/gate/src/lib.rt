@@ -10,7 +10,6 @@ ghost use lib.ListN.{length, getD};
 ghost use Rattle.format.specs.Question.{firstNo, settle};
 ghost use Rattle.format.specs.Image.{keyCount};
 ghost use Rattle.format.specs.Scan;
-ghost use Rattle.format.proofs.Histories.{RecordsFit};
 ghost use Rattle.header.specs.Refusal.{refusalOf};
 ghost use Rattle.gate.specs.Outcomes.{outcomeOf};
 
@@ -115,7 +114,7 @@ fn admit(
     time: u32,
     lockout: u32,
 ) -> Scanned
-    requires { ⌜ (keys < 65536) × (rank < keys) × (RecordsFit keys (now records) lane time) ⌝ }
+    requires { ⌜ (keys < 65536) × (rank < keys) × (Scan.RecordsFit keys (now records) lane time) ⌝ }
     ensures { λ r. ⌜ (outcomeOf r ≡ settle (Scan.lockoutQuestions last time lockout) rank) × (now (records .exit) ≡ Scan.recordsAfter (outcomeOf r) keys (now (records .entry)) lane time) ⌝ }
 {
     let record_place = rank as usize;

@@ -22,14 +22,14 @@ returns-2 c = (no-26 _ _ _ _ (sym (c .before .before .before .time-right .ensure
 lane-place-requires : tie.Need-lane-place-requires
 lane-place-requires c κs =
     let s = c .before .before .before .before .before in
-    let range = lane-range _ (s .pre .2 .lane-right) in
+    let range = lane-range _ (s .pre .2 .ends .lane-valid) in
     (s .pre .0, range .0, range .1)
 
 slice-read-openings : tie.Need-slice-read-openings
-slice-read-openings c = let s = c .before .before .before .before .before .before .before in omega (arith, c .before .lane-place .ensures, lane-range _ (s .pre .2 .lane-right), s .pre .2 .size)
+slice-read-openings c = let s = c .before .before .before .before .before .before .before in omega (arith, c .before .lane-place .ensures, lane-range _ (s .pre .2 .ends .lane-valid), s .pre .2 .size)
 
 add-records : tie.Need-add-records
-add-records c = omega (arith, c .before .before .before .before .before .before .before .pre .2 .early)
+add-records c = omega (arith, c .before .before .before .before .before .before .before .pre .2 .ends .time-below)
 
 slice-write-records : tie.Need-slice-write-records
 slice-write-records c = let s = c .before .before .before .before .before .before .before in omega (arith, s .pre .1, s .pre .2 .size)
@@ -38,12 +38,12 @@ add-records-2 : tie.Need-add-records-2
 add-records-2 c =
     let s = c .before .before .before .before .before .before .before in
     let same : getD (s .args .records .now) (c .before .lane-place .result) 0 ≡ getD (s .args .records .now) (lanePlace (s .args .keys) (s .args .lane)) 0 = ap (λ (i : ℕ). getD (s .args .records .now) i 0) (c .before .lane-place .ensures) in
-    omega (arith, s .pre .2 .few, same)
+    omega (arith, s .pre .2 .ends .count-below, same)
 
 slice-write-records-2 : tie.Need-slice-write-records-2
 slice-write-records-2 c =
     let s = c .before .before .before .before .before .before .before in
-    simp length-set (omega (arith, c .before .lane-place .ensures, lane-range _ (s .pre .2 .lane-right), s .pre .2 .size))
+    simp length-set (omega (arith, c .before .lane-place .ensures, lane-range _ (s .pre .2 .ends .lane-valid), s .pre .2 .size))
 
 returns-3 : tie.Need-returns-3
 unfolding recordsAfter opened

@@ -10,7 +10,7 @@ use borrow.Author.Needs.{needs}
 use borrow.Author.Tests.{eqb-true, lt-ltb, le-ltb, not-true, not-false}
 use Rattle.format.specs.Image.{keyCount}
 use Rattle.format.specs.Question.{Question, firstNo}
-use Rattle.format.specs.Scan.{gateQuestions, isLane, lanePlace, liftFits, recordsLength}
+use Rattle.format.specs.Scan.{gateQuestions, isLane, lanePlace, liftFits}
 use Rattle.format.proofs.Histories.{lane-range}
 use Rattle.format.proofs.Questions.{Past, no-to, yes-to}
 use Rattle.header.specs.Refusal.{refusalOf}
@@ -44,7 +44,7 @@ asked-21 : (l : tie.After-is-lane) → eqb (length (start l .args .records .now)
 asked-21 l = ap (λ (n : ℕ). eqb (length (start l .args .records .now)) (n + 8)) (keys-are l)
 
 past21 : (c : tie.Else3) → Past 3 (questions (start (c .before .before .before)))
-unfolding questions gateQuestions recordsLength
+unfolding questions gateQuestions
 past21 c = yes-to 21 _ _ _ _ (past29 (c .before)) (asked-21 (c .before .before .before)) (not-false _ (c .if3 .left))
 
 past22 : (c : tie.Else4) → Past 4 (questions (start (c .before .before .before .before)))
@@ -76,7 +76,7 @@ unfolding refusalOf questions gateQuestions
 returns-2 c = no-to 29 _ _ _ _ (past36 (c .before)) (c .before .before .is-lane .ensures) (not-true _ (c .if2 .taken))
 
 returns-3 : tie.Need-returns-3
-unfolding refusalOf questions gateQuestions recordsLength
+unfolding refusalOf questions gateQuestions
 returns-3 c = no-to 21 _ _ _ _ (past29 (c .before)) (asked-21 (c .before .before .before)) (not-true _ (c .if3 .taken))
 
 returns-4 : tie.Need-returns-4
