@@ -10,8 +10,8 @@ use native.Mathlib.Numerals.{add-one}
 use Rattle.format.specs.Seq.{All, numbersFrom, upTo}
 use Rattle.format.specs.Question.{Question, Yes, firstNo, oneTo}
 use native.Mathlib.Omega.{arith}
-use borrow.Author.Tests.{le-leb, leb-true}
-use lib.Dec.{leb}
+use borrow.Author.Tests.{eq-eqb, le-leb, leb-true}
+use lib.Dec.{eqb, leb}
 use lib.ListN.{drop}
 use Rattle.format.proofs.Lists.{and-both, and-left, and-right, numbers-split}
 
@@ -80,6 +80,17 @@ after-no (q ∷ qs) rs n h = go (q .1) (after-no qs rs n) h
         → cond b (firstNo (qs ++ rs)) (some (q .0)) ≡ some n
     go true ih e = ih e
     go false ih e = e
+
+-- questions with other numbers than the first no's got a yes
+pub others-yes : (qs rs : List Question) (n : ℕ) → All (λ q. eqb (q .0) n ≡ false) qs → firstNo (qs ++ rs) ≡ some n → All Yes qs × (firstNo rs ≡ some n)
+unfolding firstNo
+others-yes [] rs n ne h = (tt, h)
+others-yes (q ∷ qs) rs n ne h = go (q .1) refl (others-yes qs rs n (ne .1)) h
+  where
+    go : (b : Bool) → q .1 ≡ b → (firstNo (qs ++ rs) ≡ some n → All Yes qs × (firstNo rs ≡ some n)) → cond b (firstNo (qs ++ rs)) (some (q .0)) ≡ some n
+        → (Yes q × All Yes qs) × (firstNo rs ≡ some n)
+    go true e ih k = let (yes-qs, later) = ih k in ((e, yes-qs), later)
+    go false e ih k = absurd (let d : true ≡ false = sym (eq-eqb (q .0) n cc) ∙ ne .0 in let z : _≡_ {A = ℕ} 0 1 = cc in omega arith)
 
 flatMap-append : (f : ℕ → List Question) (xs ys : List ℕ) → flatMap f (xs ++ ys) ≡ flatMap f xs ++ flatMap f ys
 unfolding flatMap

@@ -26,6 +26,8 @@ pub mod Scan
 pub mod History
 -- holders: what their records tell, and the statement of when a scan opens
 pub mod Holders
+-- the statement that a card which is refused with 26 opens once the lockout has run
+pub mod Patience
 -- what the listing program prints
 pub mod Text
 -- the statement that there is one image per list, version and lift
