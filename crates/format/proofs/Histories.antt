@@ -17,7 +17,7 @@ use Rattle.format.specs.Page.{Byte}
 use Rattle.format.specs.Image.{keyCount, keysOf}
 use Rattle.format.specs.Question.{Outcome, Yes, firstNo, imageQuestions, refused, returns}
 use Rattle.format.specs.Scan.{RecordsFit, gateQuestions, isLane, lanePlace, largest32, liftFits, opened, recordsAfter, recordsAfterScan, recordsLength, scan, scanQuestions}
-use Rattle.format.specs.History.{Card, History, Images, Opening, Recorded, afterCard, afterCards, atRank, holderOn, inLane, noRecords, openingOf, openings, recordAfter, scanOf}
+use Rattle.format.specs.History.{Card, History, Images, Opening, Recorded, afterCard, afterCards, atRank, inLane, keyOn, noRecords, openingAt, openingOf, openings, recordAfter, scanOf}
 use Rattle.format.proofs.Lists.{all-left, all-right}
 use Rattle.format.proofs.Questions.{none-of-yes, range-of, yes-of-none}
 use Rattle.format.proofs.Members.{select-append}
@@ -65,6 +65,20 @@ opens-facts lift img records lane holder slot time lockout rank e =
       scan-yes = all-right Yes (imageQuestions img) _ yes-all;
       rank-is = same;
     }
+
+-- what a scan does: a refused one is no opening and leaves the records as they were, any other is recorded at its rank
+pub scan-does : (records : List ℕ) (card : Card) (P : List Opening → List ℕ → Type 0) → P [] records
+    → ((rank : ℕ) → ScanYes (card .lift) (card .image) records (card .lane) (keyOn card) (card .time) (card .lockout) rank
+    → P (openingAt rank card ∷ []) (opened (keyCount (card .image)) records (card .lane) rank (card .time)))
+    → P (openingOf (scanOf records card) card) (afterCard records card)
+unfolding recordsAfterScan
+scan-does records card P none-opens opens-at =
+    go (scanOf records card) (λ rank e. opens-at rank (opens-facts (card .lift) (card .image) records (card .lane) (card .holder) (card .slot) (card .time) (card .lockout) rank e))
+  where
+    go : (o : Outcome ℕ) → ((rank : ℕ) → o ≡ returns rank → P (openingAt rank card ∷ []) (opened (keyCount (card .image)) records (card .lane) rank (card .time)))
+        → P (openingOf o card) (recordsAfter o (keyCount (card .image)) records (card .lane) (card .time))
+    go (refused k) f = unfold openingOf recordsAfter in none-opens
+    go (returns rank) f = unfold openingOf recordsAfter in f rank refl
 
 -- what is known of an opening
 pub record OpeningFits (n : ℕ) (records : List ℕ) (rank lane : ℕ) : Type 0 where
@@ -145,23 +159,18 @@ length-one false o = refl
 module _ (n : ℕ) where
   -- after one scan: an image that opens has n keys
   one-scan : (records : List ℕ) → length records ≡ n + 8 → (card : Card) → All Byte (card .image) → Recorded n records (openingOf (scanOf records card) card) (afterCard records card)
-  unfolding recordsAfterScan
+  unfolding recordAfter atRank inLane select
   one-scan records size card a =
-      go (scanOf records card) (λ rank e. opened-facts (opens-facts (card .lift) (card .image) records (card .lane) (card .holder) (card .slot) (card .time) (card .lockout) rank e) a)
-    where
-      go : (o : Outcome ℕ) → ((rank : ℕ) → o ≡ returns rank → OpeningFits (keyCount (card .image)) records rank (card .lane))
-          → Recorded n records (openingOf o card) (recordsAfter o (keyCount (card .image)) records (card .lane) (card .time))
-      go (refused k) f = unfold openingOf recordsAfter recordAfter atRank inLane select in record { size = refl; lanes = λ l h. omega arith; ranks = λ r h. refl }
-      go (returns rank) f =
-          unfold openingOf recordsAfter atRank inLane select in
-          let same : keyCount (card .image) ≡ n = omega (arith, f rank refl .size, size) in
-          let o : OpeningFits n records rank (card .lane) = rw same at (f rank refl) in
-          let opening : Opening = record { rank = rank; lane = card .lane; time = card .time; holder = holderOn card } in
-          rw same record {
-            size = opened-size n records rank (card .lane) (card .time) o;
-            lanes = λ l h. opened-lane n records rank (card .lane) (card .time) o l h ∙ ap (getD records (lanePlace n l) 0 +_) (length-one (eqb (card .lane) l) opening);
-            ranks = λ r h. opened-rank n records rank (card .lane) (card .time) o r h ∙ record-one (eqb rank r) (getD records r 0) opening;
-          }
+      scan-does records card (Recorded n records) record { size = refl; lanes = λ l h. omega arith; ranks = λ r h. refl }
+      (λ rank y.
+      let f = opened-facts y a in
+      let same : keyCount (card .image) ≡ n = omega (arith, f .size, size) in
+      let o : OpeningFits n records rank (card .lane) = rw same at f in
+      rw same record {
+        size = opened-size n records rank (card .lane) (card .time) o;
+        lanes = λ l h. opened-lane n records rank (card .lane) (card .time) o l h ∙ ap (getD records (lanePlace n l) 0 +_) (length-one (eqb (card .lane) l) (openingAt rank card));
+        ranks = λ r h. opened-rank n records rank (card .lane) (card .time) o r h ∙ record-one (eqb rank r) (getD records r 0) (openingAt rank card);
+      })
 
 pub record-append : (x : ℕ) (os ps : List Opening) → recordAfter x (os ++ ps) ≡ recordAfter (recordAfter x os) ps
 unfolding recordAfter

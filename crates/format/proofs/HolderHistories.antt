@@ -12,16 +12,16 @@ use Rattle.format.specs.Seq.{All, consIf, isIn, select}
 use Rattle.format.specs.Key.{holderOf}
 use Rattle.format.specs.Page.{Byte}
 use Rattle.format.specs.Image.{keyCount, keysOf}
-use Rattle.format.specs.Question.{Outcome, Yes, refused, returns}
-use Rattle.format.specs.Scan.{gateQuestions, holderRecord, liftFits, lockoutQuestions, opened, recordsAfter, recordsAfterScan, recordsLength, scanQuestions}
-use Rattle.format.specs.History.{Card, Opening, afterCard, afterCards, holderOn, keyOn, noRecords, openingOf, openings, recordAfter, scanOf}
+use Rattle.format.specs.Question.{Yes}
+use Rattle.format.specs.Scan.{gateQuestions, holderRecord, liftFits, lockoutQuestions, opened, recordsLength, scanQuestions}
+use Rattle.format.specs.History.{Card, Opening, afterCard, afterCards, holderOn, keyOn, noRecords, openingAt, openingOf, openings, recordAfter, scanOf}
 use Rattle.format.specs.Holders.{Bring, Holders, NonDecreasing, Told, hasRun, lastTime, ofHolder, openingsSince, recordsSince, timeIn}
 use Rattle.format.proofs.Lists.{all-right}
 use Rattle.format.proofs.Members.{select-append}
 use Rattle.format.proofs.Checked.{checked}
 use Rattle.format.proofs.Back.{listed}
 use Rattle.format.proofs.Descent.{mem-isIn}
-use Rattle.format.proofs.Histories.{ScanYes, opened-facts, opened-rank, opens-facts, opens-listed, record-append, record-one}
+use Rattle.format.proofs.Histories.{ScanYes, opened-facts, opened-rank, opens-listed, record-append, record-one, scan-does}
 use Rattle.format.proofs.Opens.{opens-is, right-le}
 use Rattle.format.proofs.Holders.{Renewed, holder-after, holder-zeros}
 
@@ -49,23 +49,18 @@ times-one false h o f = tt
 -- after one scan
 one-card : (card : Card) → All Byte (card .image) → (records : List ℕ) (holder : ℕ)
     → Told (holderRecord (card .image) records holder) (ofHolder holder (openingOf (scanOf records card) card)) (holderRecord (card .image) (afterCard records card) holder)
-unfolding recordsAfterScan
-one-card card a records holder = go (scanOf records card) (λ rank e. opens-facts (card .lift) (card .image) records (card .lane) (card .holder) (card .slot) (card .time) (card .lockout) rank e)
-  where
-    go : (o : Outcome ℕ) → ((rank : ℕ) → o ≡ returns rank → ScanYes (card .lift) (card .image) records (card .lane) (keyOn card) (card .time) (card .lockout) rank)
-        → Told (holderRecord (card .image) records holder) (ofHolder holder (openingOf o card)) (holderRecord (card .image) (recordsAfter o (keyCount (card .image)) records (card .lane) (card .time)) holder)
-    go (refused k) f = unfold openingOf recordsAfter ofHolder select recordAfter in record { record-is = refl; times = tt }
-    go (returns rank) f =
-        unfold openingOf recordsAfter ofHolder select in
-        let o = renewed (f rank refl) a in
-        let opening : Opening = record { rank = rank; lane = card .lane; time = card .time; holder = holderOn card } in
-        let x = holderRecord (card .image) records holder in
-        let right : eqb (holderOn card) holder ≡ true → holderRecord (card .image) records holder - 1 ≤ card .time =
-        λ t. omega (arith, o .before, ap (holderRecord (card .image) records) (eqb-true (holderOn card) holder t)) in
-        record {
-          record-is = holder-after o holder ∙ record-one (eqb (holderOn card) holder) x opening;
-          times = times-one (eqb (holderOn card) holder) (x - 1) opening right;
-        }
+unfolding ofHolder select recordAfter
+one-card card a records holder =
+    let x = holderRecord (card .image) records holder in
+    scan-does records card (λ os after. Told (holderRecord (card .image) records holder) (ofHolder holder os) (holderRecord (card .image) after holder)) record { record-is = refl; times = tt }
+    (λ rank y.
+    let o = renewed y a in
+    let right : eqb (holderOn card) holder ≡ true → holderRecord (card .image) records holder - 1 ≤ card .time =
+    λ t. omega (arith, o .before, ap (holderRecord (card .image) records) (eqb-true (holderOn card) holder t)) in
+    record {
+      record-is = holder-after o holder ∙ record-one (eqb (holderOn card) holder) x (openingAt rank card);
+      times = times-one (eqb (holderOn card) holder) (x - 1) (openingAt rank card) right;
+    })
 
 -- ---- any history
 

@@ -52,10 +52,14 @@ pub record Opening : Type 0 where
   pub time : ℕ
   pub holder : ℕ
 
+-- a card's opening at a rank
+abbrev pub openingAt : ℕ → Card → Opening
+openingAt rank card = record { rank = rank; lane = card .lane; time = card .time; holder = holderOn card }
+
 -- the opening that a scan is, if it is not refused
 unfoldable pub openingOf : Outcome ℕ → Card → List Opening
 openingOf (refused n) card = []
-openingOf (returns rank) card = record { rank = rank; lane = card .lane; time = card .time; holder = holderOn card } ∷ []
+openingOf (returns rank) card = openingAt rank card ∷ []
 
 -- the openings among the cards, in order
 unfoldable pub openings : List ℕ → List Card → List Opening
