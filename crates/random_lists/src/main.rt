@@ -1,6 +1,7 @@
 // A test: lists of many shapes from a generator with a fixed seed are written for several lifts, read back by every job, and held against the plain
 // reader of a sorted array; their images are damaged, and one that is still accepted must be the exact image of its list. Prints what was compared, and the differences.
 mod ask;
+mod cards;
 mod damage;
 mod pairs;
 mod rule;

@@ -49,12 +49,17 @@ pub fn note(tally: Tally, place: usize) -> Tally {
     Tally { counts }
 }
 
+// One more difference unless it is right.
+pub fn must(tally: Tally, is_right: bool) -> Tally {
+    if is_right {
+        return tally;
+    }
+    note(tally, DIFFERENCES)
+}
+
 // One more comparison of a kind, and one more difference unless it is right.
 pub fn expect(tally: Tally, place: usize, is_right: bool) -> Tally {
-    if is_right {
-        return note(tally, place);
-    }
-    note(note(tally, place), DIFFERENCES)
+    must(note(tally, place), is_right)
 }
 
 // The count at a place.
@@ -64,6 +69,11 @@ pub fn count_of(tally: Tally, place: usize) -> u32 {
         return 0;
     }
     counts[place]
+}
+
+// Whether the count at a place rose from one tally to a later one.
+pub fn has_more(before: Tally, after: Tally, place: usize) -> bool {
+    count_of(before, place) < count_of(after, place)
 }
 
 pub fn differences(tally: Tally) -> u32 {

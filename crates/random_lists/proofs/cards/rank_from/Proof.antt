@@ -1,9 +1,9 @@
--- `random_lists::scans::rank_from` meets its contract. Assumes nothing.
+-- `random_lists::cards::rank_from` meets its contract. Assumes nothing.
 use Prim.Native.Nat.{_-_, _≤_}
 use lib.ListN.{length}
 use borrow.Author.Needs.{needs}
-use Rattle.random_lists.proofs.scans.rank_from.Statement.{statement}
-use Rattle.random_lists.proofs.scans.rank_from.Tie as tie
+use Rattle.random_lists.proofs.cards.rank_from.Statement.{statement}
+use Rattle.random_lists.proofs.cards.rank_from.Tie as tie
 
 abbrev Inv-loop : tie.InvT-loop
 Inv-loop keys from holder i₀ i = (from ≤ i)
