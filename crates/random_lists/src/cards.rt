@@ -91,6 +91,14 @@ pub fn same_holder(keys: &[u32], rank: usize, from: usize) -> usize {
     rank_from(keys, 0, holder)
 }
 
+// The next rank that has the holder of `rank`, or else the first of all.
+pub fn next_of_holder(keys: &[u32], rank: usize) -> usize {
+    if keys.len() <= rank {
+        return rank;
+    }
+    same_holder(keys, rank, rank + 1)
+}
+
 // A rank: one in three times any, one in three times one of the first four, so that some are scanned often, and else one that has the holder of these.
 pub fn pick_rank(random: Random, keys: &[u32]) -> usize {
     let rank = pick(random, keys.len());
@@ -105,7 +113,7 @@ pub fn pick_rank(random: Random, keys: &[u32]) -> usize {
     if rank / 4 % 2 == 0 {
         return same_holder(keys, often, rank);
     }
-    same_holder(keys, often, often + 1)
+    next_of_holder(keys, often)
 }
 
 // The card of a rank, at a gate of the image's lift.

@@ -2,8 +2,8 @@
 use crate::cards::Compared;
 use crate::cards::card_of;
 use crate::cards::lockout_of;
+use crate::cards::next_of_holder;
 use crate::cards::pick_rank;
-use crate::cards::same_holder;
 use crate::cards::scan_card;
 use crate::cards::vary;
 use crate::rule::Card;
@@ -82,7 +82,7 @@ fn scan_list(tally: Tally, keys: &[u32], lift: u32, image: &[u8], seed: Random) 
 
 // Whether the holder of rank 0 has several admissions.
 fn has_several(keys: &[u32]) -> bool {
-    0 < same_holder(keys, 0, 1)
+    0 < next_of_holder(keys, 0)
 }
 
 // The same, where some must be refused by another of the holder's records if the holder of rank 0 has several.
