@@ -4,9 +4,11 @@ mod ask;
 mod cards;
 mod damage;
 mod pairs;
+mod patience;
 mod rule;
 mod scans;
 mod tally;
+mod trial;
 
 use tally::LISTS;
 use tally::Tally;
@@ -18,7 +20,8 @@ fn read(tally: Tally, keys: &[u32], lift: u32, image: &[u8], seed: Random) -> Ta
     let mut t = ask::whole(tally, keys, image);
     t = ask::ask(t, keys, image, seed);
     t = pairs::pairs(t, keys, image, seed);
-    scans::scans(t, keys, lift, image, seed)
+    t = scans::scans(t, keys, lift, image, seed);
+    patience::patience(t, keys, lift, image, seed)
 }
 
 // The same, and its damaged images.

@@ -5,8 +5,10 @@ use testing::one_more;
 
 // Places 1 to 40 count the damaged images by the number that refused them; the places after them have the names below.
 pub struct Tally {
-    pub counts: [u32; 54],
+    pub counts: [u32; PLACES],
 }
+
+const PLACES: usize = 57;
 
 pub const LISTS: usize = 41;
 
@@ -23,26 +25,35 @@ pub const SCANS: usize = 46;
 // Scans refused by another of the holder's records.
 pub const ANOTHER: usize = 47;
 
-pub const PAIRS: usize = 48;
+// Lockouts that a trial went through, and the scans meanwhile.
+pub const LOCKOUTS: usize = 48;
 
-pub const DAMAGED: usize = 49;
+pub const REFUSED_BETWEEN: usize = 49;
 
-pub const SAME: usize = 50;
+pub const OPENED_BETWEEN: usize = 50;
 
-pub const OTHER_LIFT: usize = 51;
+pub const PAIRS: usize = 51;
 
-pub const OTHER_LIST: usize = 52;
+pub const DAMAGED: usize = 52;
 
-pub const DIFFERENCES: usize = 53;
+pub const SAME: usize = 53;
+
+pub const OTHER_LIFT: usize = 54;
+
+pub const OTHER_LIST: usize = 55;
+
+pub const DIFFERENCES: usize = 56;
 
 pub fn none() -> Tally {
-    Tally { counts: [0u32; 54] }
+    Tally {
+        counts: [0u32; PLACES],
+    }
 }
 
 // One more at a place.
 pub fn note(tally: Tally, place: usize) -> Tally {
     let mut counts = tally.counts;
-    if 54 <= place {
+    if PLACES <= place {
         return tally;
     }
     counts[place] = one_more(counts[place]);
@@ -65,7 +76,7 @@ pub fn expect(tally: Tally, place: usize, is_right: bool) -> Tally {
 // The count at a place.
 pub fn count_of(tally: Tally, place: usize) -> u32 {
     let counts = tally.counts;
-    if 54 <= place {
+    if PLACES <= place {
         return 0;
     }
     counts[place]
@@ -103,6 +114,9 @@ fn say_counts(tally: Tally) {
         found by rank\n\
         scans\n\
         refused by another of the holder's records\n\
+        lockouts, tried at the last second and the one after\n\
+        refused between\n\
+        opened between, by other holders\n\
         pairs of lists\n\
         damaged images\n\
         accepted, with the same list and lift\n\

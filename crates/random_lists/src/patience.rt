@@ -1,0 +1,129 @@
+// Patience: who is refused with 26 opens at the first second after the lockout, and at none before it, whatever was refused and whichever other holders opened
+// between. A trial states this by the time of the opening that it made and by the lockout, and each of its scans is compared with the plain rule too.
+use crate::cards::Compared;
+use crate::cards::scan_card;
+use crate::tally::LOCKOUTS;
+use crate::tally::OPENED_BETWEEN;
+use crate::tally::REFUSED_BETWEEN;
+use crate::tally::Tally;
+use crate::tally::expect;
+use crate::tally::has_more;
+use crate::tally::must;
+use crate::tally::note;
+use crate::trial::ANY;
+use crate::trial::SCANS_OF_TRIAL;
+use crate::trial::Step;
+use crate::trial::TRIALS;
+use crate::trial::Trial;
+use crate::trial::step_of;
+use crate::trial::trial_of;
+use testing::Random;
+use testing::count_inside;
+use testing::holder_of;
+use testing::rectangle;
+
+// A scan between. None of the trial's holder may open.
+fn count_between(tally: Tally, compared: Compared, is_own: bool) -> Tally {
+    if compared.answer != 0 {
+        return expect(tally, REFUSED_BETWEEN, compared.is_right);
+    }
+    expect(tally, OPENED_BETWEEN, compared.is_right && !is_own)
+}
+
+// A scan of a trial, which must get the step's answer whatever the rule says, and the rule's too.
+fn count_step(tally: Tally, holder: u16, step: Step, compared: Compared) -> Tally {
+    let card = step.card;
+    if step.answer == ANY {
+        return count_between(tally, compared, card.holder == holder);
+    }
+    must(tally, compared.is_right && compared.answer == step.answer)
+}
+
+// The scans of a trial. Its opening is the seed, so that no two trials draw alike.
+fn play(
+    tally: Tally,
+    keys: &[u32],
+    lift: u32,
+    image: &[u8],
+    records: &mut [u32],
+    expected: &mut [u32],
+    trial: Trial,
+) -> Tally {
+    let mut t = note(tally, LOCKOUTS);
+    let mut random = Random {
+        state: trial.opening as u64,
+    };
+    let mut i: u32 = 0;
+    while i < SCANS_OF_TRIAL {
+        random = testing::next(testing::next(random));
+        let step = step_of(keys, image, lift, trial, i, random);
+        let compared = scan_card(keys, lift, image, records, expected, step.card);
+        t = count_step(t, trial.holder, step, compared);
+        i += 1;
+    }
+    t
+}
+
+// The trials in turn. Each but the first meets the records that those before it left.
+fn play_trials(
+    tally: Tally,
+    keys: &[u32],
+    lift: u32,
+    image: &[u8],
+    records: &mut [u32],
+    expected: &mut [u32],
+    seed: Random,
+) -> Tally {
+    let mut t = tally;
+    let mut random = seed;
+    let mut i: u32 = 0;
+    while i < TRIALS {
+        random = testing::next(random);
+        let trial = trial_of(keys, image, i, random);
+        t = play(t, keys, lift, image, records, expected, trial);
+        i += 1;
+    }
+    t
+}
+
+// The same with records and counts of zeros at first.
+fn play_list(tally: Tally, keys: &[u32], lift: u32, image: &[u8], seed: Random) -> Tally {
+    let mut records = [0u32; 4104];
+    let mut expected = [0u32; 4104];
+    if 4096 < keys.len() {
+        return expect(tally, LOCKOUTS, false);
+    }
+    let n = keys.len() + 8;
+    play_trials(
+        tally,
+        keys,
+        lift,
+        image,
+        &mut records[0..n],
+        &mut expected[0..n],
+        seed,
+    )
+}
+
+// Whether some keys are of another holder than the first.
+fn has_other_holders(keys: &[u32]) -> bool {
+    if keys.len() == 0 {
+        return false;
+    }
+    let holder = (holder_of(keys[0]) % 65536) as u16;
+    let own = rectangle(holder, holder, 0, 65535);
+    count_inside(keys, keys.len(), own) < keys.len()
+}
+
+// The trials of a list that has keys. Some scans between must be refused, and some must open if the list has several holders.
+pub fn patience(tally: Tally, keys: &[u32], lift: u32, image: &[u8], seed: Random) -> Tally {
+    if keys.len() == 0 {
+        return tally;
+    }
+    let played = play_list(tally, keys, lift, image, seed);
+    let t = must(played, has_more(tally, played, REFUSED_BETWEEN));
+    if has_other_holders(keys) {
+        return must(t, has_more(tally, played, OPENED_BETWEEN));
+    }
+    t
+}
