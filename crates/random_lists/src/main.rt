@@ -3,6 +3,7 @@
 mod ask;
 mod cards;
 mod damage;
+mod history;
 mod pairs;
 mod patience;
 mod rule;
@@ -20,8 +21,7 @@ fn read(tally: Tally, keys: &[u32], lift: u32, image: &[u8], seed: Random) -> Ta
     let mut t = ask::whole(tally, keys, image);
     t = ask::ask(t, keys, image, seed);
     t = pairs::pairs(t, keys, image, seed);
-    t = scans::scans(t, keys, lift, image, seed);
-    patience::patience(t, keys, lift, image, seed)
+    history::history(t, keys, lift, image, seed)
 }
 
 // The same, and its damaged images.

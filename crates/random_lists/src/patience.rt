@@ -64,7 +64,7 @@ fn play(
     t
 }
 
-// The trials in turn. Each but the first meets the records that those before it left.
+// The trials in turn. Each meets the records that the scans before it left.
 fn play_trials(
     tally: Tally,
     keys: &[u32],
@@ -86,25 +86,6 @@ fn play_trials(
     t
 }
 
-// The same with records and counts of zeros at first.
-fn play_list(tally: Tally, keys: &[u32], lift: u32, image: &[u8], seed: Random) -> Tally {
-    let mut records = [0u32; 4104];
-    let mut expected = [0u32; 4104];
-    if 4096 < keys.len() {
-        return expect(tally, LOCKOUTS, false);
-    }
-    let n = keys.len() + 8;
-    play_trials(
-        tally,
-        keys,
-        lift,
-        image,
-        &mut records[0..n],
-        &mut expected[0..n],
-        seed,
-    )
-}
-
 // Whether some keys are of another holder than the first.
 fn has_other_holders(keys: &[u32]) -> bool {
     if keys.len() == 0 {
@@ -116,11 +97,19 @@ fn has_other_holders(keys: &[u32]) -> bool {
 }
 
 // The trials of a list that has keys. Some scans between must be refused, and some must open if the list has several holders.
-pub fn patience(tally: Tally, keys: &[u32], lift: u32, image: &[u8], seed: Random) -> Tally {
+pub fn patience(
+    tally: Tally,
+    keys: &[u32],
+    lift: u32,
+    image: &[u8],
+    records: &mut [u32],
+    expected: &mut [u32],
+    seed: Random,
+) -> Tally {
     if keys.len() == 0 {
         return tally;
     }
-    let played = play_list(tally, keys, lift, image, seed);
+    let played = play_trials(tally, keys, lift, image, records, expected, seed);
     let t = must(played, has_more(tally, played, REFUSED_BETWEEN));
     if has_other_holders(keys) {
         return must(t, has_more(tally, played, OPENED_BETWEEN));

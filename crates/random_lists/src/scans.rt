@@ -61,33 +61,22 @@ fn scan_row(
     t
 }
 
-// The same with records and counts of zeros.
-fn scan_list(tally: Tally, keys: &[u32], lift: u32, image: &[u8], seed: Random) -> Tally {
-    let mut records = [0u32; 4104];
-    let mut expected = [0u32; 4104];
-    if 4096 < keys.len() {
-        return expect(tally, SCANS, false);
-    }
-    let n = keys.len() + 8;
-    scan_row(
-        tally,
-        keys,
-        lift,
-        image,
-        &mut records[0..n],
-        &mut expected[0..n],
-        seed,
-    )
-}
-
 // Whether the holder of rank 0 has several admissions.
 fn has_several(keys: &[u32]) -> bool {
     0 < next_of_holder(keys, 0)
 }
 
 // The same, where some must be refused by another of the holder's records if the holder of rank 0 has several.
-pub fn scans(tally: Tally, keys: &[u32], lift: u32, image: &[u8], seed: Random) -> Tally {
-    let t = scan_list(tally, keys, lift, image, seed);
+pub fn scans(
+    tally: Tally,
+    keys: &[u32],
+    lift: u32,
+    image: &[u8],
+    records: &mut [u32],
+    expected: &mut [u32],
+    seed: Random,
+) -> Tally {
+    let t = scan_row(tally, keys, lift, image, records, expected, seed);
     if has_several(keys) {
         return must(t, has_more(tally, t, ANOTHER));
     }
