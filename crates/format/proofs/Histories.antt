@@ -46,6 +46,17 @@ module _ (fits : Bool) (keys : ℕ) (records : List ℕ) (lane : ℕ) (listed : 
     };
   }
 
+  -- and one to 24
+  pub is-listed : All Yes (gateQuestions fits keys records lane listed time) → listed ≡ true
+  unfolding gateQuestions
+  is-listed y = y .1 .1 .1 .1 .1 .0
+
+-- the rank of a listed key is below the key count
+pub listed-rank : (img : List ℕ) → All Byte img → firstNo (imageQuestions img) ≡ none → (key : ℕ) → isIn key (keysOf img) ≡ true → rankIn (keysOf img) key < keyCount img
+listed-rank img a y key h =
+    let keys = listed img a (checked img y) .keys in
+    omega (arith, at-rank (keysOf img) key (keys .asc) (mem-isIn key (keysOf img) h) .within, keys .count-is)
+
 -- a scan that opens: each of its questions got a yes, and its rank
 pub record ScanYes (lift : ℕ) (img records : List ℕ) (lane key time lockout rank : ℕ) : Type 0 where
   pub image-yes : firstNo (imageQuestions img) ≡ none
@@ -53,7 +64,7 @@ pub record ScanYes (lift : ℕ) (img records : List ℕ) (lane key time lockout 
   pub rank-is : rankIn (keysOf img) key ≡ rank
 
 -- from its outcome
-pub opens-facts : (lift : ℕ) (img records : List ℕ) (lane holder slot time lockout rank : ℕ) → scan lift img records lane holder slot time lockout ≡ returns rank
+opens-facts : (lift : ℕ) (img records : List ℕ) (lane holder slot time lockout rank : ℕ) → scan lift img records lane holder slot time lockout ≡ returns rank
     → ScanYes lift img records lane (keyOf holder slot) time lockout rank
 unfolding scan
 opens-facts lift img records lane holder slot time lockout rank e =
@@ -83,8 +94,8 @@ scan-does records card P none-opens opens-at =
 -- what is known of an opening
 pub record OpeningFits (n : ℕ) (records : List ℕ) (rank lane : ℕ) : Type 0 where
   rank-small : rank < n
-  size : length records ≡ n + 8
-  lane-right : isLane lane ≡ true
+  size : length records ≡ recordsLength n
+  lane-valid : isLane lane ≡ true
 
 module _ {lift : ℕ} {img records : List ℕ} {lane key time lockout rank : ℕ} (o : ScanYes lift img records lane key time lockout rank) where
   -- 36, 29 and 21 to 24 got a yes
@@ -94,18 +105,16 @@ module _ {lift : ℕ} {img records : List ℕ} {lane key time lockout rank : ℕ
 
   -- the admission is listed
   pub opens-listed : isIn key (keysOf img) ≡ true
-  unfolding gateQuestions
-  opens-listed = gate-yes .1 .1 .1 .1 .1 .0
+  opens-listed = is-listed (liftFits lift img) (keyCount img) records lane (isIn key (keysOf img)) time gate-yes
 
   -- its rank, the records and the lane
   pub opened-facts : All Byte img → OpeningFits (keyCount img) records rank lane
   opened-facts a =
       let fit = records-fit (liftFits lift img) (keyCount img) records lane (isIn key (keysOf img)) time gate-yes in
-      let keys = listed img a (checked img (o .image-yes)) .keys in
       record {
-        rank-small = omega (arith, at-rank (keysOf img) key (keys .asc) (mem-isIn key (keysOf img) opens-listed) .within, o .rank-is, keys .count-is);
+        rank-small = omega (arith, listed-rank img a (o .image-yes) key opens-listed, o .rank-is);
         size = fit .size;
-        lane-right = fit .ends .lane-valid;
+        lane-valid = fit .ends .lane-valid;
       }
 
 -- ---- the records after an opening
@@ -138,7 +147,7 @@ module _ (n : ℕ) (records : List ℕ) (rank lane time : ℕ) (o : OpeningFits 
         | yes e ↦ ap (λ (q : ℕ). getD (set (set records rank (time + 1)) (lanePlace n q) (getD records (lanePlace n q) 0 + 1)) (lanePlace n l) 0) e
             ∙ getD-set-same (set records rank (time + 1)) (lanePlace n l) (getD records (lanePlace n l) 0 + 1) 0 (omega (arith, from, length-set records rank (time + 1), o .size))
             ∙ ap (getD records (lanePlace n l) 0 +_) (sym (cond-yes (eqb lane l) 1 0 (eq-eqb lane l e)))
-        | no e ↦ getD-set-other (set records rank (time + 1)) (lanePlace n lane) (lanePlace n l) (getD records (lanePlace n lane) 0 + 1) 0 (λ d. e (omega (arith, from, lane-range lane (o .lane-right))))
+        | no e ↦ getD-set-other (set records rank (time + 1)) (lanePlace n lane) (lanePlace n l) (getD records (lanePlace n lane) 0 + 1) 0 (λ d. e (omega (arith, from, lane-range lane (o .lane-valid))))
             ∙ getD-set-other records rank (lanePlace n l) (time + 1) 0 (λ d. omega (arith, o .rank-small))
             ∙ omega (arith, cond-no {A = ℕ} (eqb lane l) 1 0 (ne-eqb lane l e))
       ]
@@ -158,7 +167,7 @@ length-one false o = refl
 
 module _ (n : ℕ) where
   -- after one scan: an image that opens has n keys
-  one-scan : (records : List ℕ) → length records ≡ n + 8 → (card : Card) → All Byte (card .image) → Recorded n records (openingOf (scanOf records card) card) (afterCard records card)
+  one-scan : (records : List ℕ) → length records ≡ recordsLength n → (card : Card) → All Byte (card .image) → Recorded n records (openingOf (scanOf records card) card) (afterCard records card)
   unfolding recordAfter atRank inLane select
   one-scan records size card a =
       scan-does records card (Recorded n records) record { size = refl; lanes = λ l h. omega arith; ranks = λ r h. refl }
@@ -178,7 +187,7 @@ record-append x [] ps = refl
 record-append x (o ∷ os) ps = record-append (o .time + 1) os ps
 
 -- after all cards
-all-scans : (n : ℕ) (records : List ℕ) → length records ≡ n + 8 → (cards : List Card) → Images cards → Recorded n records (openings records cards) (afterCards records cards)
+all-scans : (n : ℕ) (records : List ℕ) → length records ≡ recordsLength n → (cards : List Card) → Images cards → Recorded n records (openings records cards) (afterCards records cards)
 unfolding afterCards openings atRank inLane
 all-scans n records size [] a = unfold recordAfter select in record { size = refl; lanes = λ l h. omega arith; ranks = λ r h. refl }
 all-scans n records size (card ∷ cards) a =
@@ -201,10 +210,10 @@ pub history : History
 unfolding noRecords recordAfter
 history = record {
   from-zeros = λ n cards a.
-      let told = all-scans n (noRecords n) (length-replicate (n + 8) 0) cards a in
+      let told = all-scans n (noRecords n) (length-replicate (recordsLength n) 0) cards a in
       record {
-        lanes = λ l h. let from = lane-range l h in omega (arith, told .lanes l h, getD-replicate {A = ℕ} (n + 8) (lanePlace n l) 0 0 (omega (arith, from)));
-        ranks = λ r h. told .ranks r h ∙ ap (λ (x : ℕ). recordAfter x (atRank r (openings (noRecords n) cards))) (getD-replicate {A = ℕ} (n + 8) r 0 0 (omega arith));
+        lanes = λ l h. let from = lane-range l h in omega (arith, told .lanes l h, getD-replicate {A = ℕ} (recordsLength n) (lanePlace n l) 0 0 (omega (arith, from)));
+        ranks = λ r h. told .ranks r h ∙ ap (λ (x : ℕ). recordAfter x (atRank r (openings (noRecords n) cards))) (getD-replicate {A = ℕ} (recordsLength n) r 0 0 (omega arith));
       };
   recorded = λ n records size cards a. all-scans n records size cards a;
 }

@@ -35,7 +35,7 @@ pub record BelowEnds (n : ℕ) (records : List ℕ) (lane time : ℕ) : Type 0 w
   pub count-below : getD records (lanePlace n lane) 0 < largest32
   pub time-below : time < largest32
 
--- what a yes to 29 and 21 to 23 says: so it is, and the buffer has its length
+-- what a yes to 29 and 21 to 23 says: these, and that the buffer has its length
 pub record RecordsFit (n : ℕ) (records : List ℕ) (lane time : ℕ) : Type 0 where
   pub size : length records ≡ recordsLength n
   pub ends : BelowEnds n records lane time
@@ -53,16 +53,16 @@ gateQuestions fits n records lane listed time =
     ∷ (24, listed)
     ∷ []
 
--- 25 and 26, of a holder's record: never opened, or the time is not before the last opening; never opened, or at least the lockout seconds since. They
+-- 25 and 26, of a holder's record x: never opened, or the time is not before the last opening; never opened, or at least the lockout seconds since. They
 -- are about numbers, so that no sum overflows.
 unfoldable pub timeRight : ℕ → ℕ → Bool
-timeRight last time = isZero last || leb last (time + 1)
+timeRight x time = isZero x || leb x (time + 1)
 
 unfoldable pub lockoutOver : ℕ → ℕ → ℕ → Bool
-lockoutOver last time lockout = isZero last || leb (last + lockout) (time + 1)
+lockoutOver x time lockout = isZero x || leb (x + lockout) (time + 1)
 
 unfoldable pub lockoutQuestions : ℕ → ℕ → ℕ → List Question
-lockoutQuestions last time lockout = (25, timeRight last time) ∷ (26, lockoutOver last time lockout) ∷ []
+lockoutQuestions x time lockout = (25, timeRight x time) ∷ (26, lockoutOver x time lockout) ∷ []
 
 -- ---- the job
 

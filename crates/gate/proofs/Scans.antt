@@ -22,8 +22,7 @@ use Rattle.format.proofs.Keys.{holderOf-keyOf}
 use Rattle.format.specs.Exact.{Accepted}
 use Rattle.format.proofs.Accepted.{accepted-of-yes}
 use Rattle.format.proofs.Checked.{checked}
-use Rattle.format.proofs.Back.{listed as list-facts}
-use Rattle.format.proofs.Descent.{at-rank, mem-isIn}
+use Rattle.format.proofs.Histories.{listed-rank}
 use Rattle.header.specs.Refusal.{refusalOf}
 use Rattle.header.proofs.Refusals.{none-refused, passed-first, refused-first, refused-outcome}
 
@@ -79,9 +78,7 @@ module _ (img : List ℕ) (holder slot : ℕ) where
         go false d = absurd (let z : _≡_ {A = ℕ} 0 1 = cc in omega arith)
 
     pub rank-small : All Byte img → rank < keyCount img
-    rank-small a =
-        let keys = list-facts img a (checked img (image-yes (listed rank pages) e)) .keys in
-        omega (arith, at-rank (keysOf img) key (keys .asc) (mem-isIn key (keysOf img) (on .0)) .within, on .1, keys .count-is)
+    rank-small a = omega (arith, listed-rank img a (image-yes (listed rank pages) e) key (on .0), on .1)
 
 -- ---- the scan
 
