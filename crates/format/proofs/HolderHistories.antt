@@ -103,13 +103,14 @@ told-zeros : (img : List ℕ) → All Byte img → (cards : List Card) → Bring
 told-zeros img a cards b holder =
     subst (λ (x : ℕ). Told x (openingsSince img cards holder) (holderRecord img (recordsSince img cards) holder)) (zeros-record img holder) (all-cards img a (noRecords (keyCount img)) cards b holder)
 
--- it tells the holder's last opening
+-- a record tells the last of its openings
 record-last : (os : List Opening) → lastTime os ≡ timeIn (recordAfter 0 os)
 unfolding lastTime timeIn recordAfter
 record-last [] = refl
 record-last (o ∷ []) = ap timeIn (let e : suc (o .time) ≡ o .time + 1 = omega arith in e)
 record-last (o ∷ p ∷ os) = record-last (p ∷ os)
 
+-- the holder's record, from a buffer of zeros, tells the holder's last opening
 pub last-told : (img : List ℕ) → All Byte img → (cards : List Card) → Bring img cards → (holder : ℕ) → lastTime (openingsSince img cards holder) ≡ timeIn (holderRecord img (recordsSince img cards) holder)
 last-told img a cards b holder = record-last (openingsSince img cards holder) ∙ sym (ap timeIn (told-zeros img a cards b holder .record-is))
 

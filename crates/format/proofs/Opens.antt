@@ -2,50 +2,46 @@
 -- Assumes nothing.
 use mathlib.Core.Path.{_≡_, refl, sym, ap, _∙_}
 use mathlib.Core.Bool.{Bool, true, false, _&&_, cond}
-use mathlib.Core.Option.{some}
 use mathlib.Core.List.{List, [], _∷_, _++_}
 use Prim.Native.Nat.{ℕ, zero, suc, _+_, _≤_, _<_}
+use native.Mathlib.Nat.{suc-add}
+use native.Mathlib.Numerals.{add-one}
 use native.Mathlib.Omega.{arith}
 use native.Mathlib.Decide.{decLe}
-use lib.Dec.{leb, ltb}
-use borrow.Author.Tests.{ne-eqb, le-leb, lt-leb, leb-true, le-ltb, lt-ltb}
+use lib.Dec.{leb, ltb, eqb·suc-zero, leb·suc-suc}
+use borrow.Author.Tests.{le-leb, lt-leb, leb-true, le-ltb, lt-ltb}
 use Rattle.format.specs.Seq.{All, isIn, rankIn}
 use Rattle.format.specs.Image.{keyCount, keysOf}
-use Rattle.format.specs.Question.{Question, Yes, firstNo, imageQuestions, isZero, outcome, settle}
+use Rattle.format.specs.Question.{Question, Yes, firstNo, imageQuestions, isZero, outcome, refused, returns, settle}
 use Rattle.format.specs.Scan.{gateQuestions, holderRecord, liftFits, lockoutOver, lockoutQuestions, scan, scanQuestions, timeRight}
 use Rattle.format.specs.History.{Card, holderOn, keyOn, scanOf}
 use Rattle.format.specs.Holders.{Asked24, hasRun, opens, timeIn}
 use Rattle.format.proofs.Lists.{all-left, all-right}
-use Rattle.format.proofs.Questions.{after-yes, asked-no, asked-yes, none-of-yes}
+use Rattle.format.proofs.Questions.{after-yes, none-of-yes}
 
 -- ---- 25 and 26, of a record
-
--- one more on both sides
-leb-more : (x a b : ℕ) → x ≡ a + 1 → leb x (b + 1) ≡ leb a b
-leb-more x a b e =
-    elim (decLe a b) [
-      | yes h ↦ le-leb x (b + 1) (omega arith) ∙ sym (le-leb a b h)
-      | no h ↦ lt-leb x (b + 1) (omega arith) ∙ sym (lt-leb a b (omega arith))
-    ]
 
 module _ (last time : ℕ) where
   -- of a record that tells an opening
   right-told : timeRight (suc last) time ≡ leb last time
   unfolding timeRight isZero
-  right-told = rw (ne-eqb (suc last) 0 (λ e. omega arith)) (leb-more (suc last) last time (omega arith))
+  right-told = rw (eqb·suc-zero last, add-one) (leb·suc-suc last time)
 
   over-told : (lockout : ℕ) → lockoutOver (suc last) time lockout ≡ leb (last + lockout) time
   unfolding lockoutOver isZero
-  over-told lockout = rw (ne-eqb (suc last) 0 (λ e. omega arith)) (leb-more (suc last + lockout) (last + lockout) time (omega arith))
+  over-told lockout = rw (eqb·suc-zero last, suc-add, add-one) (leb·suc-suc (last + lockout) time)
 
-  -- before the lockout has run 25 or 26 gets a no
-  pub too-early : (lockout : ℕ) → time < last + lockout → firstNo (lockoutQuestions (suc last) time lockout) ≡ some (cond (ltb time last) 25 26)
-  unfolding lockoutQuestions
-  too-early lockout h =
+  -- both get a yes once the lockout has run, and before that 25 or 26 a no
+  pub run-returns : (lockout rank : ℕ) → last + lockout ≤ time → settle (lockoutQuestions (suc last) time lockout) rank ≡ returns rank
+  unfolding lockoutQuestions settle outcome firstNo
+  run-returns lockout rank h = rw (right-told ∙ le-leb last time (omega arith), over-told lockout ∙ le-leb (last + lockout) time h)
+
+  pub early-refused : (lockout rank : ℕ) → time < last + lockout → settle (lockoutQuestions (suc last) time lockout) rank ≡ refused (cond (ltb time last) 25 26)
+  unfolding lockoutQuestions settle outcome firstNo
+  early-refused lockout rank h =
       elim (decLe last time) [
-        | yes late ↦ asked-yes 25 (timeRight (suc last) time) _ (right-told ∙ le-leb last time late)
-            ∙ asked-no 26 (lockoutOver (suc last) time lockout) [] (over-told lockout ∙ lt-leb (last + lockout) time h) ∙ sym (ap (λ (t : Bool). some (cond {A = ℕ} t 25 26)) (le-ltb time last late))
-        | no late ↦ asked-no 25 (timeRight (suc last) time) _ (right-told ∙ lt-leb last time (omega arith)) ∙ sym (ap (λ (t : Bool). some (cond {A = ℕ} t 25 26)) (lt-ltb time last (omega arith)))
+        | yes late ↦ rw (right-told ∙ le-leb last time late, over-told lockout ∙ lt-leb (last + lockout) time h, le-ltb time last late)
+        | no late ↦ rw (right-told ∙ lt-leb last time (omega arith), lt-ltb time last (omega arith))
       ]
 
 -- 25: a record is at most the time + 1
@@ -61,7 +57,7 @@ over-right (suc last) time lockout h =
     right-told last time ∙ le-leb last time (omega arith)
 
 -- 26 in the words of a history
-pub over-run : (x time lockout : ℕ) → lockoutOver x time lockout ≡ hasRun lockout time (timeIn x)
+over-run : (x time lockout : ℕ) → lockoutOver x time lockout ≡ hasRun lockout time (timeIn x)
 unfolding hasRun timeIn
 over-run zero time lockout = unfold lockoutOver isZero in refl
 over-run (suc last) time lockout = over-told last time lockout
@@ -90,6 +86,7 @@ module _ (records : List ℕ) (card : Card) (y : Asked24 records card) where
   abbrev holders-record : ℕ
   holders-record = holderRecord (card .image) records (holderOn card)
 
+  -- the scan's outcome, from 24 on
   pub scan-from-24 : scanOf records card ≡ settle ((24, listed) ∷ lockoutQuestions holders-record (card .time) (card .lockout)) (rankIn (keysOf (card .image)) (keyOn card))
   unfolding scan scanQuestions settle
   scan-from-24 =

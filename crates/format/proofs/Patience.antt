@@ -2,27 +2,27 @@
 -- meanwhile. The statement is specs/Patience.antt.
 -- Assumes nothing.
 use mathlib.Core.Path.{_≡_, refl, sym, ap, subst, _∙_}
-use mathlib.Core.Bool.{true, false, _&&_, cond}
+use mathlib.Core.Bool.{true, false}
 use mathlib.Core.Option.{some}
-use mathlib.Core.List.{List, [], _∷_, _++_, flatMap}
-use Prim.Native.Nat.{ℕ, zero, suc, _+_, _≤_, _<_}
+use mathlib.Core.List.{List, _∷_, _++_, flatMap}
+use Prim.Native.Nat.{ℕ, zero, suc}
 use native.Mathlib.Omega.{arith}
-use lib.Dec.{eqb, ltb}
-use borrow.Author.Tests.{eq-eqb, le-leb, lt-ltb}
+use lib.Dec.{eqb}
+use borrow.Author.Tests.{eq-eqb, lt-ltb}
 use lib.ListN.{length}
 use Rattle.format.specs.Seq.{All, isIn, rankIn, upTo}
 use Rattle.format.specs.Page.{Byte}
 use Rattle.format.specs.Image.{bands, keyCount, keysOf, pageCount}
-use Rattle.format.specs.Question.{Question, Yes, bandQuestions, firstNo, headerQuestions, imageQuestions, isZero, nodeQuestions, outcome, pageQuestions, questionsFrom9, refused, settle}
+use Rattle.format.specs.Question.{Question, Yes, bandQuestions, firstNo, headerQuestions, imageQuestions, isZero, nodeQuestions, outcome, pageQuestions, questionsFrom9, settle}
 use Rattle.format.specs.Scan.{gateQuestions, holderRecord, largest32, liftFits, lockoutOver, lockoutQuestions, recordsLength, scan, scanQuestions, timeRight}
-use Rattle.format.specs.History.{Card, Images, afterCards, holderOn, keyOn}
-use Rattle.format.specs.Holders.{Asked24, Bring, hasRun, opens, recordsSince, timeIn}
+use Rattle.format.specs.History.{Card, afterCards, holderOn, keyOn}
+use Rattle.format.specs.Holders.{Asked24, recordsSince, timeIn}
 use Rattle.format.specs.Patience.{FirstMoment, Granted, LockedOut, Patience, again, scanAgain}
-use Rattle.format.proofs.Lists.{all-append, all-flatMap, all-numbers, all-upTo}
+use Rattle.format.proofs.Lists.{all-append, all-flatMap, all-to, all-numbers, all-upTo}
 use Rattle.format.proofs.Questions.{asked-yes, others-yes}
 use Rattle.format.proofs.Jobs.{no-of-refused}
-use Rattle.format.proofs.Histories.{history, records-fit}
-use Rattle.format.proofs.Opens.{opens-is, scan-from-24, too-early}
+use Rattle.format.proofs.Histories.{history, is-listed, records-fit}
+use Rattle.format.proofs.Opens.{early-refused, run-returns, scan-from-24}
 use Rattle.format.proofs.HolderHistories.{holders, last-told}
 
 -- ---- what a refusal with 26 tells
@@ -53,16 +53,16 @@ before-26 : {records : List ℕ} {card : Card} → LockedOut records card → Be
 unfolding scan scanQuestions gateQuestions
 before-26 {records} {card} l =
     let img = card .image in
-    let first-no = no-of-refused (imageQuestions img ++ scanQuestions (card .lift) img records (card .lane) (keyOn card) (card .time) (card .lockout)) (rankIn (keysOf img) (keyOn card)) 26 (l .refused-26) in
-    let (image-yes, later) = others-yes (imageQuestions img) _ 26 (image-numbers img) first-no in
+    let first-no = no-of-refused (imageQuestions img ++ scanQuestions (card .lift) img records (card .lane) (keyOn card) (card .time) (card .lockout)) (rankIn (keysOf img) (keyOn card)) 26 l in
+    let (image-yes, gate-no) = others-yes (imageQuestions img) _ 26 (image-numbers img) first-no in
     let (gate-yes, then-26) =
     others-yes (gateQuestions (liftFits (card .lift) img) (keyCount img) records (card .lane) (isIn (keyOn card) (keysOf img)) (card .time)) _ 26
-    (refl, (refl, (refl, (refl, (refl, (refl, tt)))))) later in
+    (refl, (refl, (refl, (refl, (refl, (refl, tt)))))) gate-no in
     record { image-yes = image-yes; gate-yes = gate-yes; then-26 = then-26 }
 
 -- ---- the scan again
 
-module _ {records : List ℕ} {card : Card} (l : LockedOut records card) {between : List Card} {lane time : ℕ} (g : Granted records card between lane time) where
+module _ {records : List ℕ} {card : Card} (a : All Byte (card .image)) (l : LockedOut records card) {between : List Card} {lane time : ℕ} (g : Granted records card between lane time) where
   abbrev img : List ℕ
   img = card .image
 
@@ -73,11 +73,7 @@ module _ {records : List ℕ} {card : Card} (l : LockedOut records card) {betwee
   size : length later ≡ recordsLength (keyCount img)
   size =
       let fit = records-fit (liftFits (card .lift) img) (keyCount img) records (card .lane) (isIn (keyOn card) (keysOf img)) (card .time) (before-26 l .gate-yes) in
-      history .recorded (keyCount img) records (fit .size) (card ∷ between) (l .bytes, images between (g .one-image)) .size ∙ fit .size
-    where
-      images : (cards : List Card) → Bring (card .image) cards → Images cards
-      images [] b = tt
-      images (c ∷ cards) b = (subst (All Byte) (sym (b .0)) (l .bytes), images cards (b .1))
+      history .recorded (keyCount img) records (fit .size) (card ∷ between) (a, all-to (λ c. c .image ≡ img) (λ c. All Byte (c .image)) (λ c e. subst (All Byte) (sym e) a) between (g .one-image)) .size ∙ fit .size
 
   -- no question before 24 refuses
   asked : Asked24 later (again card lane time)
@@ -88,49 +84,40 @@ module _ {records : List ℕ} {card : Card} (l : LockedOut records card) {betwee
       (before .gate-yes .0, (g .ends .lane-valid, (eq-eqb (length later) (recordsLength (keyCount img)) size, (lt-ltb time largest32 (g .ends .time-below), (lt-ltb _ largest32 (g .ends .count-below), (refl, tt))))))
 
   -- the admission is listed
-  is-listed : isIn (keyOn card) (keysOf img) ≡ true
-  unfolding gateQuestions
-  is-listed = before-26 l .gate-yes .1 .1 .1 .1 .1 .0
+  still-listed : isIn (keyOn card) (keysOf img) ≡ true
+  still-listed = is-listed (liftFits (card .lift) img) (keyCount img) records (card .lane) (isIn (keyOn card) (keysOf img)) (card .time) (before-26 l .gate-yes)
 
   -- the holder's record is as it was
   kept : holderRecord img later (holderOn card) ≡ holderRecord img records (holderOn card)
-  kept = holders img (l .bytes) .lockout-not-restarted records (card ∷ between) (refl, g .one-image) (holderOn card) (g .none-opened)
+  kept = holders img a .lockout-not-restarted records (card ∷ between) (refl, g .one-image) (holderOn card) (g .none-opened)
 
-  module _ {last : ℕ} (told : holderRecord img records (holderOn card) ≡ suc last) where
-    opens-late : last + card .lockout ≤ time → opens (scanAgain records card between lane time) ≡ true
-    unfolding hasRun timeIn
-    opens-late h =
-        opens-is later (again card lane time) asked
-        ∙ ap (_&& hasRun (card .lockout) time (timeIn (holderRecord img later (holderOn card)))) is-listed
-        ∙ ap (λ (x : ℕ). hasRun (card .lockout) time (timeIn x)) (kept ∙ told)
-        ∙ le-leb (last + card .lockout) time h
-
-    refused-early : time < last + card .lockout → scanAgain records card between lane time ≡ refused (cond (ltb time last) 25 26)
-    unfolding settle outcome
-    refused-early h =
-        scan-from-24 later (again card lane time) asked
-        ∙ ap (λ o. outcome o (rankIn (keysOf img) (keyOn card)))
-        (asked-yes 24 (isIn (keyOn card) (keysOf img)) _ is-listed ∙ ap (λ (x : ℕ). firstNo (lockoutQuestions x time (card .lockout))) (kept ∙ told) ∙ too-early last time (card .lockout) h)
+  -- 25 and 26 decide, over the record that they looked at when they refused
+  again-told : {x : ℕ} → holderRecord img records (holderOn card) ≡ x → scanAgain records card between lane time ≡ settle (lockoutQuestions x time (card .lockout)) (rankIn (keysOf img) (keyOn card))
+  unfolding settle
+  again-told told =
+      scan-from-24 later (again card lane time) asked
+      ∙ ap (λ o. outcome o (rankIn (keysOf img) (keyOn card)))
+      (asked-yes 24 (isIn (keyOn card) (keysOf img)) _ still-listed ∙ ap (λ (x : ℕ). firstNo (lockoutQuestions x time (card .lockout))) (kept ∙ told))
 
 -- ---- the statement
 
 -- from any records: who never opened gets no 26
-from-records : (records : List ℕ) (card : Card) → LockedOut records card → FirstMoment records card (timeIn (holderRecord (card .image) records (holderOn card)))
-from-records records card l = go (holderRecord (card .image) records (holderOn card)) refl (before-26 l .then-26)
+from-records : (records : List ℕ) (card : Card) → All Byte (card .image) → LockedOut records card → FirstMoment records card (timeIn (holderRecord (card .image) records (holderOn card)))
+from-records records card a l = go (holderRecord (card .image) records (holderOn card)) refl (before-26 l .then-26)
   where
     go : (x : ℕ) → holderRecord (card .image) records (holderOn card) ≡ x → firstNo (lockoutQuestions x (card .time) (card .lockout)) ≡ some 26 → FirstMoment records card (timeIn x)
     go zero told then-26 = absurd (unfold lockoutQuestions firstNo timeRight lockoutOver isZero in let z : _≡_ {A = ℕ} 0 1 = cc in omega arith)
     go (suc last) told then-26 = unfold timeIn in record {
       last = last;
       last-is = refl;
-      gets-through = λ between lane time g. opens-late l g told;
-      too-early = λ between lane time g. refused-early l g told;
+      gets-through = λ between lane time g h. again-told a l g told ∙ run-returns last time (card .lockout) _ h;
+      too-early = λ between lane time g h. again-told a l g told ∙ early-refused last time (card .lockout) _ h;
     }
 
+-- from zeros: the holder's record tells the holder's last opening
 pub patience : Patience
 patience = record {
-  -- the holder's record tells the holder's last opening
-  from-zeros = λ before card b l.
-      subst (FirstMoment (recordsSince (card .image) before) card) (sym (last-told (card .image) (l .bytes) before b (holderOn card))) (from-records (recordsSince (card .image) before) card l);
+  from-zeros = λ before card a b l.
+      subst (FirstMoment (recordsSince (card .image) before) card) (sym (last-told (card .image) a before b (holderOn card))) (from-records (recordsSince (card .image) before) card a l);
   from-any = from-records;
 }

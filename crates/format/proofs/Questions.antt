@@ -10,7 +10,7 @@ use native.Mathlib.Numerals.{add-one}
 use Rattle.format.specs.Seq.{All, numbersFrom, upTo}
 use Rattle.format.specs.Question.{Question, Yes, firstNo, oneTo}
 use native.Mathlib.Omega.{arith}
-use borrow.Author.Tests.{eq-eqb, le-leb, leb-true}
+use borrow.Author.Tests.{eqb-false, le-leb, leb-true}
 use lib.Dec.{eqb, leb}
 use lib.ListN.{drop}
 use Rattle.format.proofs.Lists.{and-both, and-left, and-right, numbers-split}
@@ -90,7 +90,7 @@ others-yes (q ∷ qs) rs n ne h = go (q .1) refl (others-yes qs rs n (ne .1)) h
     go : (b : Bool) → q .1 ≡ b → (firstNo (qs ++ rs) ≡ some n → All Yes qs × (firstNo rs ≡ some n)) → cond b (firstNo (qs ++ rs)) (some (q .0)) ≡ some n
         → (Yes q × All Yes qs) × (firstNo rs ≡ some n)
     go true e ih k = let (yes-qs, later) = ih k in ((e, yes-qs), later)
-    go false e ih k = absurd (let d : true ≡ false = sym (eq-eqb (q .0) n cc) ∙ ne .0 in let z : _≡_ {A = ℕ} 0 1 = cc in omega arith)
+    go false e ih k = absurd (eqb-false (q .0) n (ne .0) cc)
 
 flatMap-append : (f : ℕ → List Question) (xs ys : List ℕ) → flatMap f (xs ++ ys) ≡ flatMap f xs ++ flatMap f ys
 unfolding flatMap

@@ -30,7 +30,7 @@ lastTime [] = none
 lastTime (o ∷ []) = some (o .time)
 lastTime (o ∷ p ∷ os) = lastTime (p ∷ os)
 
--- the same, as a record tells it: none where the record is 0, else one less than the record
+-- the time that a record tells: none where it is 0, for never; else one less than the record
 unfoldable pub timeIn : ℕ → Option ℕ
 timeIn zero = none
 timeIn (suc time) = some time

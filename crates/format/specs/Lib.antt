@@ -26,7 +26,7 @@ pub mod Scan
 pub mod History
 -- holders: what their records tell, and the statement of when a scan opens
 pub mod Holders
--- the statement that a card which is refused with 26 opens once the lockout has run
+-- the statement that a card which is refused with 26 opens once the lockout has run, and no earlier
 pub mod Patience
 -- what the listing program prints
 pub mod Text
