@@ -3,7 +3,7 @@
 mod compare;
 mod lists;
 mod random;
-mod reader;
+mod sorted;
 
 pub use compare::line_end;
 pub use compare::one_more;
@@ -14,10 +14,10 @@ pub use lists::spaced;
 pub use random::Random;
 pub use random::below;
 pub use random::next;
-pub use reader::count_inside;
-pub use reader::holder_of;
-pub use reader::is_inside;
-pub use reader::key_of;
-pub use reader::rank_of;
-pub use reader::rectangle;
-pub use reader::whole_square;
+pub use sorted::count_inside;
+pub use sorted::holder_of;
+pub use sorted::is_inside;
+pub use sorted::key_of;
+pub use sorted::rank_of;
+pub use sorted::rectangle;
+pub use sorted::whole_square;

@@ -5,8 +5,8 @@ ghost use mathlib.Core.Path.{_≡_};
 use crate::random::Random;
 use crate::random::below;
 use crate::random::next;
-use crate::reader::key_of;
-use crate::reader::rank_of;
+use crate::sorted::key_of;
+use crate::sorted::rank_of;
 
 // Fills the first places with keys from `first` on, each 1 to `gap` above the one before it, as many as there are places and keys below 2 ^ 32. Returns
 // how many.

@@ -6,7 +6,7 @@ use Rattle.testing.proofs.lists.insert.Tie as tie
 use Rattle.testing.proofs.lists.insert.Reads as reads
 use Rattle.testing.proofs.lists.insert.Lts as lts
 use Rattle.testing.proofs.lists.move_up.Reads as move-up-reads
-use Rattle.testing.proofs.reader.rank_of.Reads as rank-of-reads
+use Rattle.testing.proofs.sorted.rank_of.Reads as rank-of-reads
 
 -- src/lists.rt:46:9
 returns : tie.Need-returns

@@ -1,10 +1,10 @@
--- `testing::reader::count_inside` meets its contract. Assumes nothing.
+-- `testing::sorted::count_inside` meets its contract. Assumes nothing.
 use Prim.Native.Nat.{_-_, _≤_}
 use native.Mathlib.Omega.{arith}
 use mathlib.Core.Logic.{⊎-elim}
 use borrow.Author.Needs.{needs}
-use Rattle.testing.proofs.reader.count_inside.Statement.{statement}
-use Rattle.testing.proofs.reader.count_inside.Tie as tie
+use Rattle.testing.proofs.sorted.count_inside.Statement.{statement}
+use Rattle.testing.proofs.sorted.count_inside.Tie as tie
 
 abbrev Inv-loop : tie.InvT-loop
 Inv-loop keys n rectangle members₀ i₀ members i = (i ≤ n) × (members ≤ i)

@@ -1,8 +1,8 @@
--- `testing::reader::even_bits` meets its contract. Assumes nothing.
+-- `testing::sorted::even_bits` meets its contract. Assumes nothing.
 use Prim.Native.Nat.{_-_, _≤_, _<_}
 use borrow.Author.Needs.{needs}
-use Rattle.testing.proofs.reader.even_bits.Statement.{statement}
-use Rattle.testing.proofs.reader.even_bits.Tie as tie
+use Rattle.testing.proofs.sorted.even_bits.Statement.{statement}
+use Rattle.testing.proofs.sorted.even_bits.Tie as tie
 
 abbrev Inv-loop : tie.InvT-loop
 Inv-loop key left₀ bits₀ unit₀ i₀ left bits unit i = (i ≤ 16) × (bits < 65536) × (unit < 65536)

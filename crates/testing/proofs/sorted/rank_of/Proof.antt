@@ -1,8 +1,8 @@
--- `testing::reader::rank_of` meets its contract. Assumes nothing.
+-- `testing::sorted::rank_of` meets its contract. Assumes nothing.
 use Prim.Native.Nat.{_-_, _≤_}
 use borrow.Author.Needs.{needs}
-use Rattle.testing.proofs.reader.rank_of.Statement.{statement}
-use Rattle.testing.proofs.reader.rank_of.Tie as tie
+use Rattle.testing.proofs.sorted.rank_of.Statement.{statement}
+use Rattle.testing.proofs.sorted.rank_of.Tie as tie
 
 abbrev Inv-loop : tie.InvT-loop
 Inv-loop keys n key i₀ i = i ≤ n

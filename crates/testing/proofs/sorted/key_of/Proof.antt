@@ -1,8 +1,8 @@
--- `testing::reader::key_of` meets its contract. Assumes nothing.
+-- `testing::sorted::key_of` meets its contract. Assumes nothing.
 use Prim.Native.Nat.{_-_, _≤_, _<_}
 use borrow.Author.Needs.{needs}
-use Rattle.testing.proofs.reader.key_of.Statement.{statement}
-use Rattle.testing.proofs.reader.key_of.Tie as tie
+use Rattle.testing.proofs.sorted.key_of.Statement.{statement}
+use Rattle.testing.proofs.sorted.key_of.Tie as tie
 
 abbrev Inv-loop : tie.InvT-loop
 Inv-loop holder slot key₀ h₀ s₀ unit₀ i₀ key h s unit i = (i ≤ 16) × (key < 4294967296) × (unit < 4294967296)
