@@ -30,7 +30,7 @@ fn answer_of(scanned: Scanned) -> u8 {
 fn is_answer(scanned: Scanned, refusal: u8, rank: usize) -> bool {
     match scanned {
         Scanned::Opened(r) => refusal == 0 && r as usize == rank,
-        Scanned::Refused(n) => n == refusal,
+        Scanned::Refused(n) => n != 0 && n == refusal,
     }
 }
 

@@ -1,5 +1,6 @@
 // A test: lists of many shapes from a generator with a fixed seed are written for several lifts, read back by every job, and held against the plain
-// reader of a sorted array; their images are damaged, and one that is still accepted must be the exact image of its list. Prints what was compared, and the differences.
+// reader of a sorted array, and scans against a plain rule of the gate, with lockouts played to their end; their images are damaged, and one that is
+// still accepted must be the exact image of its list. Prints what was compared, and the differences.
 mod ask;
 mod cards;
 mod damage;

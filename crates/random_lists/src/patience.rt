@@ -5,6 +5,7 @@ use crate::cards::scan_card;
 use crate::tally::LOCKOUTS;
 use crate::tally::OPENED_BETWEEN;
 use crate::tally::REFUSED_BETWEEN;
+use crate::tally::TRIED_AGAIN;
 use crate::tally::Tally;
 use crate::tally::expect;
 use crate::tally::has_more;
@@ -22,15 +23,19 @@ use testing::count_inside;
 use testing::holder_of;
 use testing::rectangle;
 
-// A scan between. None of the trial's holder may open.
+// A scan between. No admission of the trial's holder may open.
 fn count_between(tally: Tally, compared: Compared, is_own: bool) -> Tally {
-    if compared.answer != 0 {
-        return expect(tally, REFUSED_BETWEEN, compared.is_right);
+    if compared.answer == 0 {
+        return expect(tally, OPENED_BETWEEN, compared.is_right && !is_own);
     }
-    expect(tally, OPENED_BETWEEN, compared.is_right && !is_own)
+    let t = expect(tally, REFUSED_BETWEEN, compared.is_right);
+    if is_own && compared.answer == 26 {
+        return note(t, TRIED_AGAIN);
+    }
+    t
 }
 
-// A scan of a trial, which must get the step's answer whatever the rule says, and the rule's too.
+// A scan of a trial, which must get the rule's answer, and the step's where the step has one.
 fn count_step(tally: Tally, holder: u16, step: Step, compared: Compared) -> Tally {
     let card = step.card;
     if step.answer == ANY {
@@ -39,7 +44,7 @@ fn count_step(tally: Tally, holder: u16, step: Step, compared: Compared) -> Tall
     must(tally, compared.is_right && compared.answer == step.answer)
 }
 
-// The scans of a trial. Its opening is the seed, so that no two trials draw alike.
+// The scans of a trial. Its opening is the seed, so that no two trials of a list draw alike. The holder must have tried again between.
 fn play(
     tally: Tally,
     keys: &[u32],
@@ -61,7 +66,7 @@ fn play(
         t = count_step(t, trial.holder, step, compared);
         i += 1;
     }
-    t
+    must(t, has_more(tally, t, TRIED_AGAIN))
 }
 
 // The trials in turn. Each meets the records that the scans before it left.
@@ -96,7 +101,7 @@ fn has_other_holders(keys: &[u32]) -> bool {
     count_inside(keys, keys.len(), own) < keys.len()
 }
 
-// The trials of a list that has keys. Some scans between must be refused, and some must open if the list has several holders.
+// The trials of a list that has keys. Over all of them some scans between must open if the list has several holders.
 pub fn patience(
     tally: Tally,
     keys: &[u32],
@@ -109,10 +114,9 @@ pub fn patience(
     if keys.len() == 0 {
         return tally;
     }
-    let played = play_trials(tally, keys, lift, image, records, expected, seed);
-    let t = must(played, has_more(tally, played, REFUSED_BETWEEN));
+    let t = play_trials(tally, keys, lift, image, records, expected, seed);
     if has_other_holders(keys) {
-        return must(t, has_more(tally, played, OPENED_BETWEEN));
+        return must(t, has_more(tally, t, OPENED_BETWEEN));
     }
     t
 }

@@ -8,7 +8,7 @@ pub struct Tally {
     pub counts: [u32; PLACES],
 }
 
-const PLACES: usize = 57;
+const PLACES: usize = 58;
 
 pub const LISTS: usize = 41;
 
@@ -30,19 +30,22 @@ pub const LOCKOUTS: usize = 48;
 
 pub const REFUSED_BETWEEN: usize = 49;
 
-pub const OPENED_BETWEEN: usize = 50;
+// Of the refused ones, the trial's holder's own that got 26.
+pub const TRIED_AGAIN: usize = 50;
 
-pub const PAIRS: usize = 51;
+pub const OPENED_BETWEEN: usize = 51;
 
-pub const DAMAGED: usize = 52;
+pub const PAIRS: usize = 52;
 
-pub const SAME: usize = 53;
+pub const DAMAGED: usize = 53;
 
-pub const OTHER_LIFT: usize = 54;
+pub const SAME: usize = 54;
 
-pub const OTHER_LIST: usize = 55;
+pub const OTHER_LIFT: usize = 55;
 
-pub const DIFFERENCES: usize = 56;
+pub const OTHER_LIST: usize = 56;
+
+const DIFFERENCES: usize = 57;
 
 pub fn none() -> Tally {
     Tally {
@@ -74,7 +77,7 @@ pub fn expect(tally: Tally, place: usize, is_right: bool) -> Tally {
 }
 
 // The count at a place.
-pub fn count_of(tally: Tally, place: usize) -> u32 {
+fn count_of(tally: Tally, place: usize) -> u32 {
     let counts = tally.counts;
     if PLACES <= place {
         return 0;
@@ -114,8 +117,9 @@ fn say_counts(tally: Tally) {
         found by rank\n\
         scans\n\
         refused by another of the holder's records\n\
-        lockouts, tried at the last second and the one after\n\
+        lockouts, scanned in their last second and in the one after\n\
         refused between\n\
+        refused between with 26, of the same holder\n\
         opened between, by other holders\n\
         pairs of lists\n\
         damaged images\n\

@@ -16,10 +16,10 @@ pub const TRIALS: u32 = 6;
 
 pub const SCANS_OF_TRIAL: u32 = 45;
 
-// The last second at which a card can open.
+// The last time at which a card can open.
 const LAST_TIME: u32 = 4294967294;
 
-// Every opening of a trial lies at least so many seconds before the first of the next.
+// Every opening of a trial lies at least so many seconds before the one with which the next trial begins.
 const REST: u32 = 10000000;
 
 // A holder's opening, and the lockout after it.
@@ -28,7 +28,7 @@ pub struct Trial {
     // The rank that opens, and another of the holder's; the same where there is no other.
     pub rank: usize,
     pub other: usize,
-    // The second of the opening.
+    // The time of the opening.
     pub opening: u32,
     pub lockout: u32,
     pub lane: u32,
@@ -44,14 +44,14 @@ pub struct Step {
 // The answer of a scan between, which the rule alone tells.
 pub const ANY: u8 = 255;
 
-// The second of a trial's opening. Its other openings are at most three times REST later, but for the last trial's.
+// The time of a trial's opening. Its other openings are at most three times REST later, but for the last trial's.
 fn opening_of(turn: u32, random: Random) -> u32
     ensures { λ r. ⌜ r ≤ 4294967294 ⌝ }
 {
     5 * REST * (1 + turn % TRIALS) + testing::below(random, 1000000)
 }
 
-// The lockout of a trial. The last trial's ends at the last second.
+// The lockout of a trial. The last trial's leaves only the last time at which a card can open.
 fn trial_lockout(turn: u32, opening: u32) -> u32
     requires { ⌜ opening ≤ 4294967294 ⌝ }
 {
@@ -87,7 +87,7 @@ fn later(time: u32, seconds: u32) -> u32 {
 }
 
 // The time one second earlier.
-fn second_before(time: u32) -> u32 {
+fn time_before(time: u32) -> u32 {
     if time == 0 { 0 } else { time - 1 }
 }
 
@@ -96,8 +96,8 @@ fn end_of(trial: Trial) -> u32 {
     later(trial.opening, trial.lockout)
 }
 
-// A number below `n`, or 0 where there is none. The generator's own numbers end below the longest lockout.
-fn draw(random: Random, n: u32) -> u32 {
+// A number below `n`, or 0 where there is none, drawn from more than the generator's own numbers, which end below the longest lockout.
+fn wide_below(random: Random, n: u32) -> u32 {
     if n == 0 {
         return 0;
     }
@@ -105,16 +105,16 @@ fn draw(random: Random, n: u32) -> u32 {
     testing::below(Random { state }, n)
 }
 
-// A second of the lockout.
-fn second_within(trial: Trial, random: Random) -> u32 {
-    later(trial.opening, draw(random, trial.lockout))
+// A time within the lockout.
+fn time_within(trial: Trial, random: Random) -> u32 {
+    later(trial.opening, wide_below(random, trial.lockout))
 }
 
 fn smaller(a: u32, b: u32) -> u32 {
     if a < b { a } else { b }
 }
 
-// The opening. An earlier one of the holder's may lie within the last trial's lockout, but not within REST.
+// The opening. An earlier one of the holder's may lie less than the last trial's lockout before it, but not less than REST.
 fn opening_step(image: &[u8], lift: u32, trial: Trial) -> Step {
     let lockout = smaller(trial.lockout, REST);
     Step {
@@ -124,14 +124,14 @@ fn opening_step(image: &[u8], lift: u32, trial: Trial) -> Step {
 }
 
 // A scan of the holder's other rank.
-fn own_step(image: &[u8], lift: u32, trial: Trial, time: u32, answer: u8) -> Step {
+fn own_step(image: &[u8], lift: u32, trial: Trial, time: u32, lane: u32, answer: u8) -> Step {
     Step {
-        card: card_of(image, lift, trial.other, time, trial.lockout, trial.lane),
+        card: card_of(image, lift, trial.other, time, trial.lockout, lane),
         answer,
     }
 }
 
-// The rank of a card between: any, or on each second turn one of the holder's.
+// The rank of a card between: any, or on every other turn one of the holder's.
 fn rank_between(keys: &[u32], trial: Trial, turn: u32, random: Random) -> usize {
     let rank = pick(random, keys.len());
     if turn % 2 == 0 {
@@ -144,15 +144,15 @@ fn rank_between(keys: &[u32], trial: Trial, turn: u32, random: Random) -> usize 
 fn time_between(trial: Trial, is_own: bool, turn: u32, random: Random) -> u32 {
     let kind = turn / 2 % 3;
     if kind == 0 {
-        return draw(random, trial.opening);
+        return wide_below(random, trial.opening);
     }
     if kind == 1 {
-        return second_within(trial, random);
+        return time_within(trial, random);
     }
     if is_own {
-        return second_within(trial, random);
+        return time_within(trial, random);
     }
-    later(end_of(trial), draw(random, 2 * REST))
+    later(end_of(trial), wide_below(random, 2 * REST))
 }
 
 // A scan between: on some turns of a card that is not listed, in no lane or at another lift's gate.
@@ -181,7 +181,7 @@ fn step_between(
     }
 }
 
-// The scan of a turn: first the opening, one within the lockout and one before the opening, then 40 between, the lockout's last second and the one after it.
+// The scan of a turn: first the opening, one within the lockout and one before the opening, then 40 between, and in another lane the lockout's last second and the one after it.
 pub fn step_of(
     keys: &[u32],
     image: &[u8],
@@ -194,17 +194,32 @@ pub fn step_of(
         return opening_step(image, lift, trial);
     }
     if turn == 1 {
-        return own_step(image, lift, trial, second_within(trial, random), 26);
+        return own_step(
+            image,
+            lift,
+            trial,
+            time_within(trial, random),
+            trial.lane,
+            26,
+        );
     }
     if turn == 2 {
-        return own_step(image, lift, trial, second_before(trial.opening), 25);
+        return own_step(
+            image,
+            lift,
+            trial,
+            time_before(trial.opening),
+            trial.lane,
+            25,
+        );
     }
     if turn < SCANS_OF_TRIAL - 2 {
         return step_between(keys, image, lift, trial, turn, random);
     }
     let end = end_of(trial);
+    let other_lane = 1 + trial.lane % 8;
     if turn == SCANS_OF_TRIAL - 2 {
-        return own_step(image, lift, trial, second_before(end), 26);
+        return own_step(image, lift, trial, time_before(end), other_lane, 26);
     }
-    own_step(image, lift, trial, end, 0)
+    own_step(image, lift, trial, end, other_lane, 0)
 }

@@ -7,10 +7,10 @@ use Rattle.random_lists.proofs.patience.play.Statement.{statement}
 use Rattle.random_lists.proofs.patience.play.Tie as tie
 
 abbrev Inv-loop : tie.InvT-loop
-Inv-loop keys lift image records₀ expected₀ trial t₀ random₀ i₀ records expected t random i = (i ≤ 45) × (length records ≡ length records₀) × (length expected ≡ length expected₀)
+Inv-loop tally keys lift image records₀ expected₀ trial t₀ random₀ i₀ records expected t random i = (i ≤ 45) × (length records ≡ length records₀) × (length expected ≡ length expected₀)
 
 abbrev μ-loop : tie.MeasureT-loop
-μ-loop keys lift image records₀ expected₀ trial t₀ random₀ i₀ records expected t random i = 45 - i
+μ-loop tally keys lift image records₀ expected₀ trial t₀ random₀ i₀ records expected t random i = 45 - i
 
 pub play-spec : {M : Type 1} → statement M
 play-spec =
@@ -29,6 +29,8 @@ play-spec =
     (λ c. search needs)
     (λ c. search needs)
     (λ c. search needs)
+    (λ c κs. search needs)
+    (λ c κs. search needs)
     (λ c. search needs)
     (λ c. search needs)
     (λ c. search needs))

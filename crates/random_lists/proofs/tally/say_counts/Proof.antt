@@ -5,10 +5,10 @@ use Rattle.random_lists.proofs.tally.say_counts.Statement.{statement}
 use Rattle.random_lists.proofs.tally.say_counts.Tie as tie
 
 abbrev Inv-loop : tie.InvT-loop
-Inv-loop text counts place₀ i₀ place i = (i ≤ 56)
+Inv-loop text counts place₀ i₀ place i = (i ≤ 57)
 
 abbrev μ-loop : tie.MeasureT-loop
-μ-loop text counts place₀ i₀ place i = 56 - i
+μ-loop text counts place₀ i₀ place i = 57 - i
 
 pub say-counts-spec : {M : Type 1} → statement M
 say-counts-spec =
