@@ -21,6 +21,21 @@ use Rattle.format.proofs.Questions.{after-yes, none-of-yes}
 
 -- ---- 25 and 26, of a record
 
+-- answered one after the other
+module _ (x time lockout rank : ℕ) where
+  pub no-25 : timeRight x time ≡ false → refused 25 ≡ settle (lockoutQuestions x time lockout) rank
+  unfolding lockoutQuestions settle outcome firstNo
+  no-25 h = rw h
+
+  module _ (right : timeRight x time ≡ true) where
+    pub no-26 : lockoutOver x time lockout ≡ false → refused 26 ≡ settle (lockoutQuestions x time lockout) rank
+    unfolding lockoutQuestions settle outcome firstNo
+    no-26 h = rw (right, h)
+
+    pub both-yes : lockoutOver x time lockout ≡ true → returns rank ≡ settle (lockoutQuestions x time lockout) rank
+    unfolding lockoutQuestions settle outcome firstNo
+    both-yes h = rw (right, h)
+
 module _ (last time : ℕ) where
   -- of a record that tells an opening
   right-told : timeRight (suc last) time ≡ leb last time
@@ -33,15 +48,13 @@ module _ (last time : ℕ) where
 
   -- both get a yes once the lockout has run, and before that 25 or 26 a no
   pub run-returns : (lockout rank : ℕ) → last + lockout ≤ time → settle (lockoutQuestions (suc last) time lockout) rank ≡ returns rank
-  unfolding lockoutQuestions settle outcome firstNo
-  run-returns lockout rank h = rw (right-told ∙ le-leb last time (omega arith), over-told lockout ∙ le-leb (last + lockout) time h)
+  run-returns lockout rank h = sym (both-yes (suc last) time lockout rank (right-told ∙ le-leb last time (omega arith)) (over-told lockout ∙ le-leb (last + lockout) time h))
 
   pub early-refused : (lockout rank : ℕ) → time < last + lockout → settle (lockoutQuestions (suc last) time lockout) rank ≡ refused (cond (ltb time last) 25 26)
-  unfolding lockoutQuestions settle outcome firstNo
   early-refused lockout rank h =
       elim (decLe last time) [
-        | yes late ↦ rw (right-told ∙ le-leb last time late, over-told lockout ∙ lt-leb (last + lockout) time h, le-ltb time last late)
-        | no late ↦ rw (right-told ∙ lt-leb last time (omega arith), lt-ltb time last (omega arith))
+        | yes late ↦ rw (le-ltb time last late) (sym (no-26 (suc last) time lockout rank (right-told ∙ le-leb last time late) (over-told lockout ∙ lt-leb (last + lockout) time h)))
+        | no late ↦ rw (lt-ltb time last (omega arith)) (sym (no-25 (suc last) time lockout rank (right-told ∙ lt-leb last time (omega arith))))
       ]
 
 -- 25: a record is at most the time + 1

@@ -7,7 +7,7 @@ use borrow.Author.Tests.{not-true, not-false}
 use lib.ListN.{getD, length-set, set}
 use Rattle.format.specs.Scan.{lanePlace, opened, recordsAfter}
 use Rattle.format.proofs.Histories.{lane-range}
-use Rattle.gate.proofs.Admits.{no-25, no-26, both-yes}
+use Rattle.format.proofs.Opens.{both-yes, no-25, no-26}
 use Rattle.gate.proofs.admit.Statement.{statement}
 use Rattle.gate.proofs.admit.Tie as tie
 
