@@ -7,14 +7,13 @@ use native.Mathlib.Numerals.{add-one}
 use native.Mathlib.Decide.{decLt}
 use native.Mathlib.Omega.{arith}
 use lib.ListN.{length, getD, take}
-use Rattle.format.specs.Trie.{onBits}
-use Rattle.format.specs.Image.{outLinkCount, pageCount, pageLevels, pageNodes, pagePairs, pageRoots, pageT}
+use Rattle.format.specs.Trie.{onBits, bit, childAt}
+use Rattle.format.specs.Image.{outLinkCount, pageCount, pageLevels, pageNodes, pagePairs, pageRoots, pageT, prefixesAt, depth}
+use Rattle.format.specs.Place.{offset, before, Reached}
 use Rattle.format.proofs.Counting.{marks, marks-mono, page-nodes-counted}
-use Rattle.format.proofs.Descent.{bit, childAt}
 use Rattle.format.proofs.PageFacts.{page-facts}
-use Rattle.format.proofs.Places.{offset}
-use Rattle.format.proofs.Levels.{levelAt, prefixesAt, before, depth, before-roots, childPlace}
-use Rattle.format.proofs.Walk.{Reached, ReachedAt, Out, outLink, reached-any, reached-child, reached-index, reached-out, reached-place, links-total}
+use Rattle.format.proofs.Levels.{levelAt, before-roots, childPlace}
+use Rattle.format.proofs.Walk.{ReachedAt, Out, outLink, reached-any, reached-child, reached-index, reached-out, reached-place, links-total}
 use Rattle.format.proofs.Upward.{reached-level, reached-same, root-place, up-link}
 use Rattle.nodes.specs.declared.Words.{Words}
 use Rattle.nodes.specs.Words.{countsBefore, nodeIn, onesBefore, wordsOf}

@@ -6,12 +6,12 @@ use Prim.Native.Nat.{ℕ, suc, _+_, _-_, _*_, _/_, _^_, _≤_, _<_}
 use native.Mathlib.Nat.{add-mul, mul-assoc, mul-comm, mul-le-mul-right, pow-le-pow-right, pow-suc}
 use native.Mathlib.Omega.{arith}
 use lib.ListN.{length, getD}
-use Rattle.format.specs.Image.{bands, keyCount, keysOf, pageCount, pageNumber, pagesBefore}
+use Rattle.format.specs.Image.{bands, keyCount, keysOf, pageCount, pageNumber, pagesBefore, prefixesAt}
 use Rattle.format.specs.Question.{outLinksDue}
-use Rattle.format.proofs.Levels.{prefixesAt, prefixes-keys}
+use Rattle.format.proofs.Levels.{prefixes-keys}
 use Rattle.pages.specs.Page.{Ready}
 use Rattle.climb.specs.Climb.{ClimbRight}
-use Rattle.pages.proofs.Pages.{bytes, checked}
+use Rattle.pages.proofs.Pages.{checked}
 use Rattle.pages.proofs.Counts.{next-first, keys-count, links-count, links-few}
 
 -- what the bands below band `number` have given of the key of a rank, and the out-link of that band that leads to them
@@ -84,4 +84,4 @@ ranked-end {img} {rank} {link} {first} {key} {unit} {number} s h =
     let root : getD (prefixesAt img (4 * number)) link 0 ≡ 0 = ap₂ (λ (n m : ℕ). getD (prefixesAt img (4 * n)) m 0) e none ∙ (unfold prefixesAt Rattle.format.specs.Trie.descend in refl) in
     let k : getD (prefixesAt img 32) rank 0 ≡ key = s .value ∙ ap (λ (x : ℕ). x * unit + key) root ∙ omega arith in
     let u : unit ≡ 4294967296 = s .unit-is ∙ ap (λ (n : ℕ). 16 ^ (8 - n)) e in
-    (sym k ∙ ap (λ (l : List ℕ). getD l rank 0) (prefixes-keys img (bytes (s .ready)) (checked (s .ready)) (s .ready .some)), omega (arith, s .small))
+    (sym k ∙ ap (λ (l : List ℕ). getD l rank 0) (prefixes-keys img), omega (arith, s .small))

@@ -4,7 +4,7 @@ use mathlib.Core.Path.{_≡_}
 use mathlib.Core.List.{List}
 use Prim.Native.Nat.{ℕ, _+_, _-_, _*_, _<_}
 use lib.ListN.{length, getD}
-use Rattle.format.proofs.Levels.{prefixesAt}
+use Rattle.format.specs.Image.{prefixesAt}
 
 -- four bits lead from a root of band b to an out-link
 pub record ClimbRight (img : List ℕ) (b link root bits : ℕ) : Type 0 where

@@ -4,9 +4,9 @@ use mathlib.Core.Path.{_≡_}
 use mathlib.Core.List.{List}
 use Prim.Native.Nat.{ℕ, _+_, _-_, _/_, _%_, _^_, _≤_, _<_}
 use lib.Count.{ones}
-use Rattle.format.proofs.Descent.{bit}
 use Rattle.nodes.specs.Words.{nodeIn}
 use Rattle.pages.specs.Page.{childIn}
+use Rattle.format.specs.Trie.{bit}
 
 -- of a part that starts at place `low`, with `upper` on bits in its upper half of `width` bits: the half that has on bit `left`
 pub record Halved (upper width low left low′ left′ : ℕ) : Type 0 where

@@ -14,7 +14,7 @@ use Rattle.format.specs.Seq.{All, numbersFrom, total}
 use Rattle.format.specs.Trie.{below, descend, levelsOf, levelsOver, nodesOver, onBits, parents}
 use Rattle.format.specs.Page.{Byte, numberAt, twoBytes}
 use Rattle.format.specs.Header.{header, headerEnd, headerStart, mark, versionFor}
-use Rattle.format.specs.Image.{bandLevels, bands, imageLevels, keyCount, keysOf, liftOf, pageCount, pageNumber, pagesBefore, rootCount, versionOf}
+use Rattle.format.specs.Image.{bandLevels, bands, imageLevels, keyCount, keysOf, liftOf, pageCount, pageNumber, pagesBefore, prefixesAt, rootCount, versionOf}
 use Rattle.format.specs.Question.{outLinksDue}
 use Rattle.format.specs.Writer.{bandBytes, bandCounts, bandsIn, bandsOf, imageOf, pagesOf}
 use Rattle.format.proofs.Lists.{all-get, all-numbers, numbers-all, length-numbers, length-flatMap, flatMap-map, numbers-split, total-append}
@@ -114,23 +114,28 @@ module _ (img : List ℕ) (a : All Byte img) (c : Checked img) where
 
   -- ---- the list
 
+  -- the 32 levels are all that the keys' ways go down
+  pub keys-descend : keysOf img ≡ descend (0 ∷ []) (imageLevels img)
+  unfolding keysOf prefixesAt
+  keys-descend = ap (descend (0 ∷ [])) (take-all 32 (imageLevels img) (omega (arith, image-32)))
+
   empty-list : rootCount img 1 ≡ 0 → imageLevels img ≡ replicate 32 []
   empty-list e = no-levels (imageLevels img) (rw e at image-shape) ∙ ap (λ (n : ℕ). replicate n []) image-32
 
   none-listed : imageLevels img ≡ replicate 32 [] → keyCount img ≡ 0 → Listed img
-  unfolding keysOf descend below levelsOf levelsOver parents nodesOver
+  unfolding keysOf prefixesAt descend below levelsOf levelsOver parents nodesOver
   none-listed e z = record { keys = rw (e, z) (record { asc = tt; fits = tt; count-is = refl }); levels = rw e }
 
   some-listed : rootCount img 1 ≡ 1 → Listed img
-  unfolding keysOf levelsOf levelsOver
+  unfolding levelsOf levelsOver
   some-listed e =
       let s : Shape 1 (imageLevels img) = rw e at image-shape in
       let l : lastOn 1 (imageLevels img) ≡ keyCount img = rw e at image-last in
       let n : length (imageLevels img) + 0 ≡ 32 = omega (arith, image-32) in
       let m : 0 + length (imageLevels img) ≡ 32 = omega (arith, image-32) in
       record {
-        keys = rw (l, n) at (descend-keys 0 (0 ∷ []) (imageLevels img) tt (omega arith, tt) s);
-        levels = ap (λ (k : ℕ). levelsOver k (descend (0 ∷ []) (imageLevels img))) (sym m) ∙ levels-back 0 (0 ∷ []) (imageLevels img) tt s;
+        keys = rw keys-descend (rw (l, n) at (descend-keys 0 (0 ∷ []) (imageLevels img) tt (omega arith, tt) s));
+        levels = rw keys-descend (ap (λ (k : ℕ). levelsOver k (descend (0 ∷ []) (imageLevels img))) (sym m) ∙ levels-back 0 (0 ∷ []) (imageLevels img) tt s);
       }
 
   pub listed : Listed img

@@ -11,14 +11,8 @@ use Rattle.format.specs.declared.Range.{Range}
 use Rattle.format.specs.declared.Rectangle.{Rectangle}
 use Rattle.format.specs.Key.{gather, holderOf, slotOf}
 use Rattle.format.specs.Answer.{contains, inside, isWithin}
+use Rattle.format.specs.Cell.{lowest, highest, Apart, before-holders, after-holders, before-slots, after-slots, Covers}
 use Rattle.format.proofs.Lists.{and-both}
-
--- the first and the last key with prefix x, w bits to come
-abbrev pub lowest : ℕ → ℕ → ℕ
-lowest w x = x * 2 ^ w
-
-abbrev pub highest : ℕ → ℕ → ℕ
-highest w x = x * 2 ^ w + (2 ^ w - 1)
 
 pub record Between (lo m hi : ℕ) : Type 0 where
   pub low : lo ≤ m
@@ -93,20 +87,6 @@ prefix-cell w x k e =
     let f : x * 2 ^ w + k % 2 ^ w ≡ k = rw e at d in
     let l : k % 2 ^ w < 2 ^ w = mod-lt k (power w) in
     (omega arith, omega arith)
-
--- the rectangle has nothing of the cell
-pub data Apart (rectangle : Rectangle) (w x : ℕ) : Type 0 where
-  before-holders : holderOf (highest w x) < rectangle .holders .low → Apart rectangle w x
-  after-holders : rectangle .holders .high < holderOf (lowest w x) → Apart rectangle w x
-  before-slots : slotOf (highest w x) < rectangle .slots .low → Apart rectangle w x
-  after-slots : rectangle .slots .high < slotOf (lowest w x) → Apart rectangle w x
-
--- or all of it
-pub record Covers (rectangle : Rectangle) (w x : ℕ) : Type 0 where
-  pub from-holder : rectangle .holders .low ≤ holderOf (lowest w x)
-  pub to-holder : holderOf (highest w x) ≤ rectangle .holders .high
-  pub from-slot : rectangle .slots .low ≤ slotOf (lowest w x)
-  pub to-slot : slotOf (highest w x) ≤ rectangle .slots .high
 
 and-no-left : (a b : Bool) → a ≡ false → a && b ≡ false
 and-no-left a b e = rw e

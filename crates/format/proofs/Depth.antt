@@ -9,16 +9,17 @@ use lib.Dec.{eqb}
 use lib.ListN.{length, getD, take, drop}
 use lib.Seq.{drop-cons}
 use Rattle.format.specs.Seq.{All, consIf}
-use Rattle.format.specs.Trie.{below, descend, onBits}
+use Rattle.format.specs.Trie.{below, descend, onBits, childAt}
 use Rattle.format.specs.Page.{Byte}
-use Rattle.format.specs.Image.{imageLevels, keyCount, keysOf, pagePairs}
+use Rattle.format.specs.Image.{imageLevels, keyCount, keysOf, pagePairs, depth}
+use Rattle.format.specs.Place.{Reached}
 use Rattle.format.proofs.Lists.{all-append}
 use Rattle.format.proofs.Trie.{Shape, Nodes}
 use Rattle.format.proofs.Checked.{Checked}
-use Rattle.format.proofs.Back.{image-shape, image-32}
-use Rattle.format.proofs.Descent.{childAt, node-at, onBits-suc, length-below, halve}
-use Rattle.format.proofs.Levels.{levelAt, depth, one-root}
-use Rattle.format.proofs.Walk.{Reached, reached-node}
+use Rattle.format.proofs.Back.{image-shape, image-32, keys-descend}
+use Rattle.format.proofs.Descent.{node-at, onBits-suc, length-below, halve}
+use Rattle.format.proofs.Levels.{levelAt, one-root}
+use Rattle.format.proofs.Walk.{reached-node}
 
 -- l where the bit b is on, and nothing where it is off
 abbrev pub when : ℕ → List ℕ → List ℕ
@@ -102,8 +103,8 @@ keysUnder img d n x = under (drop d (imageLevels img)) n x
 module _ (img : List ℕ) (a : All Byte img) (c : Checked img) (some : 1 ≤ keyCount img) where
   -- the list is what stands below the root of level 1
   pub keys-all : keysOf img ≡ keysUnder img 0 0 0
-  unfolding keysOf keysUnder
-  keys-all = depth-first (imageLevels img) (0 ∷ []) (rw (one-root img a c some) at (image-shape img a c)) ∙ append-nil (under (imageLevels img) 0 0)
+  unfolding keysUnder
+  keys-all = keys-descend img a c ∙ depth-first (imageLevels img) (0 ∷ []) (rw (one-root img a c some) at (image-shape img a c)) ∙ append-nil (under (imageLevels img) 0 0)
 
   pub keys-here : (n x : ℕ) → keysUnder img 32 n x ≡ x ∷ []
   unfolding keysUnder

@@ -13,20 +13,10 @@ use lib.Dec.{eqb}
 use lib.ListN.{length, getD, take, drop}
 use lib.Seq.{getD-append-add, length-take-le}
 use Rattle.format.specs.Seq.{consIf, isIn, rankIn, select}
-use Rattle.format.specs.Trie.{below, bits, descend, onBits}
+use Rattle.format.specs.Trie.{below, bit, bits, childAt, descend, onBits}
 use Rattle.format.proofs.Trie.{Above, Asc, Nodes, Shape}
 use Rattle.format.proofs.Subtries.{nodes-take}
 use Rattle.format.proofs.Members.{asc-tail}
-
--- bit c of a node: the first for 0, the second for 1
-abbrev pub bit : ℕ → ℕ → ℕ
-bit zero n = n / 2
-bit (suc c) n = n % 2
-
--- the on bits of a level before bit c of node i: where that bit's child stands in the next level
-abbrev pub childAt : List ℕ → ℕ → ℕ → ℕ
-childAt ns i zero = onBits (take i ns)
-childAt ns i (suc c) = onBits (take i ns) + getD ns i 0 / 2
 
 -- ---- nodes by index
 

@@ -10,7 +10,7 @@ use Rattle.format.specs.Seq.{All, numbersFrom}
 use Rattle.format.specs.Trie.{below, descend, levelsOf, levelsOver, nodesOver, onBits, parents}
 use Rattle.format.specs.Page.{Byte}
 use Rattle.format.specs.Header.{header, versionFor}
-use Rattle.format.specs.Image.{bandLevels, bands, imageLevels, keysOf, liftOf, versionOf}
+use Rattle.format.specs.Image.{bandLevels, bands, imageLevels, keysOf, liftOf, prefixesAt, versionOf}
 use Rattle.format.specs.Writer.{bandBytes, bandCounts, bandsIn, bandsOf, imageOf, pagesOf, rootsIn}
 use Rattle.format.proofs.Lists.{all-numbers, flatMap-same}
 use Rattle.format.proofs.Trie.{Shape, Fits, Asc, levels-spell}
@@ -127,9 +127,9 @@ levels-found img levels e h =
     ∙ levels-row levels 0 8
     ∙ take-all 32 levels (omega arith)
 
-keys-found : (img keys : List ℕ) → imageLevels img ≡ levelsOf keys → descend (0 ∷ []) (levelsOf keys) ≡ keys → keysOf img ≡ keys
-unfolding keysOf
-keys-found img keys e h = ap (descend (0 ∷ [])) e ∙ h
+keys-found : (img keys : List ℕ) → imageLevels img ≡ levelsOf keys → length (levelsOf keys) ≡ 32 → descend (0 ∷ []) (levelsOf keys) ≡ keys → keysOf img ≡ keys
+unfolding keysOf prefixesAt
+keys-found img keys e n h = ap (λ (ls : List (List ℕ)). descend (0 ∷ []) (take 32 ls)) e ∙ ap (descend (0 ∷ [])) (take-all 32 (levelsOf keys) (omega arith)) ∙ h
 
 -- Every ascending list of at most 4,096 keys of 32 bits has, for each lift from 0 to 999, an accepted image, of bytes, whose list it is.
 pub record Imaged (lift : ℕ) (keys : List ℕ) : Type 0 where
@@ -152,7 +152,7 @@ imaged lift keys small a f few =
     record {
       is-accepted = rw is (accepted img (is-checked lift (length keys) small (bandAt levels) h img p));
       bytes = rw is b;
-      list = ap keysOf is ∙ keys-found img keys found (key-levels keys a f .back);
+      list = ap keysOf is ∙ keys-found img keys found (length-levelsOver 32 keys) (key-levels keys a f .back);
       version = ap versionOf is ∙ version-in lift (length keys) small (bandAt levels) h img p;
       its-lift = ap liftOf is ∙ lift-in lift (length keys) small (bandAt levels) h img p;
     }

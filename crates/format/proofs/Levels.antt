@@ -6,11 +6,12 @@ use Prim.Native.Nat.{ℕ, zero, suc, _+_, _*_, _-_, _≤_, _<_}
 use native.Mathlib.Nat.{zero-add}
 use native.Mathlib.Omega.{arith}
 use lib.ListN.{length, getD, take, drop, take-append-drop}
-use lib.Seq.{take-suc, drop-cons, take-all}
+use lib.Seq.{take-suc, drop-cons}
 use Rattle.format.specs.Seq.{All, numbersFrom, total, upTo}
-use Rattle.format.specs.Trie.{below, descend, onBits}
+use Rattle.format.specs.Trie.{below, descend, onBits, bit, childAt}
 use Rattle.format.specs.Page.{Byte}
-use Rattle.format.specs.Image.{bandLevel, bandLevels, bands, imageLevels, keyCount, keysOf, outLinkCount, pageB, pageCount, pageLevels, pageNodes, pagePairs, pageRoots, pageT, rootCount}
+use Rattle.format.specs.Image.{bandLevel, bandLevels, bands, imageLevels, keyCount, keysOf, outLinkCount, pageB, pageCount, pageLevels, pageNodes, pagePairs, pageRoots, pageT, rootCount, prefixesAt, depth}
+use Rattle.format.specs.Place.{offset, before}
 use Rattle.format.proofs.Lists.{map-same, all-numbers}
 use Rattle.format.proofs.Trie.{Shape, Nodes, Asc, descend-snoc}
 use Rattle.format.proofs.Shapes.{lastOn, shape-left, shape-right, descend-keys}
@@ -19,8 +20,8 @@ use Rattle.format.proofs.Checked.{Checked, Counts, no-keys, some-keys}
 use Rattle.format.proofs.Read.{page-four, page-shape, page-roots, band-four}
 use Rattle.format.proofs.Counters.{T-counts, B-counts}
 use Rattle.format.proofs.Back.{image-shape, image-32}
-use Rattle.format.proofs.Descent.{bit, childAt, child-place, length-below, child-prefix, bit-of-mem}
-use Rattle.format.proofs.Places.{offset, place-node, place-child, offset-all, offset-within, offset-le, level-next, lengths, run-at, run-within, run-before, fours-at}
+use Rattle.format.proofs.Descent.{child-place, length-below, child-prefix, bit-of-mem}
+use Rattle.format.proofs.Places.{place-node, place-child, offset-all, offset-within, offset-le, level-next, run-at, run-within, run-before, fours-at}
 
 pub descend-parts : (ps : List ℕ) (d : ℕ) (ls : List (List ℕ)) → descend (descend ps (take d ls)) (drop d ls) ≡ descend ps ls
 unfolding descend
@@ -28,20 +29,14 @@ descend-parts ps zero ls = refl
 descend-parts ps (suc d) [] = refl
 descend-parts ps (suc d) (ns ∷ ls) = descend-parts (below ps ns) d ls
 
--- the nodes of level d, from 0, and their prefixes; level 32's are the keys
+-- the nodes of level d, from 0
 unfoldable pub levelAt : List ℕ → ℕ → List ℕ
 levelAt img d = getD (imageLevels img) d []
 
-unfoldable pub prefixesAt : List ℕ → ℕ → List ℕ
-prefixesAt img d = descend (0 ∷ []) (take d (imageLevels img))
-
--- level l, from 0, of band b
-abbrev pub depth : ℕ → ℕ → ℕ
-depth b l = 4 * (b - 1) + l
-
--- how many nodes of level l of band b stand before those of page i
-unfoldable pub before : List ℕ → ℕ → ℕ → ℕ → ℕ
-before img b l i = lengths (λ k. getD (pageLevels img b k) l []) 0 i
+-- level 32's prefixes are the keys
+pub prefixes-keys : (img : List ℕ) → prefixesAt img 32 ≡ keysOf img
+unfolding keysOf
+prefixes-keys img = refl
 
 -- the place of the child of bit c of the node at place p: the roots, and the on bits before that bit
 abbrev pub childPlace : List ℕ → ℕ → ℕ → ℕ → ℕ → ℕ
@@ -87,10 +82,6 @@ module _ (img : List ℕ) (a : All Byte img) (c : Checked img) (some : 1 ≤ key
   unfolding prefixesAt levelAt
   prefixes-next d h =
       ap (descend (0 ∷ [])) (take-suc (imageLevels img) d [] (omega (arith, image-32 img a c))) ∙ descend-snoc (0 ∷ []) (take d (imageLevels img)) (getD (imageLevels img) d [])
-
-  pub prefixes-keys : prefixesAt img 32 ≡ keysOf img
-  unfolding prefixesAt keysOf
-  prefixes-keys = ap (descend (0 ∷ [])) (take-all 32 (imageLevels img) (omega (arith, image-32 img a c)))
 
   -- the bit of a node leads to the prefix with that bit
   pub next-prefix : (d n t : ℕ) → d < 32 → n < length (prefixesAt img d) → t ≤ 1 → 1 ≤ bit t (getD (levelAt img d) n 0)

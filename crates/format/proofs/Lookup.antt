@@ -2,23 +2,22 @@
 -- Assumes nothing.
 use mathlib.Core.List.{List, map, List·Memᴰ, Memᴰ·cast}
 use mathlib.Core.Path.{_≡_, sym, ap, _∙_, subst}
-use Prim.Native.Nat.{ℕ, suc, _+_, _*_, _-_, _/_, _%_, _^_, _≤_, _<_}
+use Prim.Native.Nat.{ℕ, suc, _+_, _*_, _-_, _/_, _^_, _≤_, _<_}
 use native.Mathlib.Omega.{arith}
 use lib.ListN.{length, getD}
 use Rattle.format.specs.Seq.{All, isIn, rankIn}
 use Rattle.format.specs.Page.{Byte}
-use Rattle.format.specs.Image.{bands, keyCount, keysOf, pagePairs}
+use Rattle.format.specs.Image.{bands, keyCount, keysOf, pagePairs, prefixesAt, depth}
 use Rattle.format.specs.Answer.{LookupAnswer, absent, listed, lookupAnswer, pageOf}
+use Rattle.format.specs.Key.{keyBit}
+use Rattle.format.specs.Trie.{bit}
+use Rattle.format.specs.Place.{Reached}
 use Rattle.format.proofs.Trie.{Asc}
 use Rattle.format.proofs.Checked.{Checked, cond-yes, cond-no}
-use Rattle.format.proofs.Descent.{bit, isIn-mem, isIn-not, mem-at, rank-at, halve}
-use Rattle.format.proofs.Levels.{prefixesAt, depth, prefixes-asc, prefixes-keys}
-use Rattle.format.proofs.Walk.{Reached, reached-off, listed-prefix}
+use Rattle.format.proofs.Descent.{isIn-mem, isIn-not, mem-at, rank-at, halve}
+use Rattle.format.proofs.Levels.{prefixes-asc, prefixes-keys}
+use Rattle.format.proofs.Walk.{reached-off, listed-prefix}
 use Rattle.format.proofs.Depth.{no-keys-listed}
-
--- the bit of a key at level d, from 0
-abbrev pub keyBit : ℕ → ℕ → ℕ
-keyBit key d = key / 2 ^ (31 - d) % 2
 
 -- a key's prefix one bit longer
 pub longer : (key d : ℕ) → d < 32 → key / 2 ^ (32 - suc d) ≡ 2 * (key / 2 ^ (32 - d)) + keyBit key d
@@ -41,7 +40,7 @@ module _ (img : List ℕ) (a : All Byte img) (c : Checked img) (some : 1 ≤ key
   pub place-listed : (key n : ℕ) → n < length (prefixesAt img 32) → getD (prefixesAt img 32) n 0 ≡ key → lookupAnswer img key ≡ listed n (map (pageOf img key) bands)
   unfolding lookupAnswer
   place-listed key n h e =
-      let k = prefixes-keys img a c some in
+      let k = prefixes-keys img in
       let h′ : n < length (keysOf img) = rw k at h in
       let e′ : getD (keysOf img) n 0 ≡ key = rw k at e in
       let asc : Asc (keysOf img) = rw k at (prefixes-asc img a c some 32) in

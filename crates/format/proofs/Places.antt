@@ -12,15 +12,11 @@ use lib.Seq.{getD-append-add, take-append-add, take-append-le}
 use Rattle.format.specs.Seq.{lastBelow, numbersFrom, total}
 use Rattle.format.specs.Trie.{onBits}
 use Rattle.format.specs.Page.{nodeCount}
+use Rattle.format.specs.Place.{offset}
 use Rattle.format.proofs.Trie.{Shape}
 use Rattle.format.proofs.Subtries.{onBits-append}
 
--- the nodes of a page's first l levels, and their on bits
-abbrev pub offset : ℕ → List (List ℕ) → ℕ
-offset zero page = 0
-offset (suc l) [] = 0
-offset (suc l) (ns ∷ page) = length ns + offset l page
-
+-- the on bits of a page's first l levels
 abbrev linked : ℕ → List (List ℕ) → ℕ
 linked zero page = 0
 linked (suc l) [] = 0

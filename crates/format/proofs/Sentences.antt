@@ -12,19 +12,20 @@ use lib.ListN.{length, getD}
 use Rattle.format.specs.declared.Rectangle.{Rectangle}
 use Rattle.format.specs.Seq.{All, rankIn}
 use Rattle.format.specs.Page.{Byte, firstSubtries, nodeCount}
-use Rattle.format.specs.Image.{keyCount, keysOf, liftOf, pageCount, pageRoots, pageT, versionOf}
+use Rattle.format.specs.Image.{keyCount, keysOf, liftOf, pageCount, pageRoots, pageT, versionOf, depth, prefixesAt}
 use Rattle.format.specs.Question.{isZero}
 use Rattle.format.specs.Answer.{inside, memberKeys}
 use Rattle.format.specs.Scan.{liftFits}
 use Rattle.format.specs.Exact.{Accepted}
+use Rattle.format.specs.Place.{Reached}
 use Rattle.format.proofs.Lists.{or-first}
 use Rattle.format.proofs.Trie.{Asc, Shape}
 use Rattle.format.proofs.Subtries.{first-shape, length-first, node-bounds}
 use Rattle.format.proofs.Members.{select-asc}
 use Rattle.format.proofs.Checked.{Checked, no-lift}
 use Rattle.format.proofs.Descent.{rank-at}
-use Rattle.format.proofs.Walk.{Out, Reached, outLink, reached-root}
-use Rattle.format.proofs.Levels.{depth, prefixes-asc, prefixes-keys, prefixesAt}
+use Rattle.format.proofs.Walk.{Out, outLink, reached-root}
+use Rattle.format.proofs.Levels.{prefixes-asc, prefixes-keys}
 use Rattle.format.proofs.Accepted.{facts}
 
 -- "a root and all below it in its band is a subtrie: 4 to 15 nodes"
@@ -61,7 +62,7 @@ module _ (img : List ℕ) (a : All Byte img) (c : Checked img) (some : 1 ≤ key
   -- and out of band 8 to the key whose rank is n
   pub link-rank : (i q x : ℕ) → Out img 8 i q x → rankIn (keysOf img) x ≡ outLink img 8 i q
   link-rank i q x o =
-      let k = prefixes-keys img a c some in
+      let k = prefixes-keys img in
       let asc : Asc (keysOf img) = rw k at (prefixes-asc img a c some 32) in
       let within : outLink img 8 i q < length (keysOf img) = rw k at (o .within) in
       let here : getD (keysOf img) (outLink img 8 i q) 0 ≡ x = rw k at (o .prefix) in

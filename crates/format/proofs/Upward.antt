@@ -8,13 +8,14 @@ use native.Mathlib.Omega.{arith}
 use lib.ListN.{length, getD}
 use Rattle.format.specs.Seq.{All}
 use Rattle.format.specs.Page.{Byte}
-use Rattle.format.specs.Image.{keyCount, pageCount, pageLevels, pageNodes, pagePairs, pageRoots, pageT}
+use Rattle.format.specs.Image.{keyCount, pageCount, pageLevels, pageNodes, pagePairs, pageRoots, pageT, prefixesAt, depth}
+use Rattle.format.specs.Trie.{bit}
+use Rattle.format.specs.Place.{offset, before, Reached}
 use Rattle.format.proofs.Checked.{Checked}
 use Rattle.format.proofs.Read.{page-four}
-use Rattle.format.proofs.Descent.{bit}
-use Rattle.format.proofs.Places.{offset, offset-within}
-use Rattle.format.proofs.Levels.{prefixesAt, depth, before, childPlace}
-use Rattle.format.proofs.Walk.{Reached, reached-place, reached-child, reached-out, Out, ReachedAt}
+use Rattle.format.proofs.Places.{offset-within}
+use Rattle.format.proofs.Levels.{childPlace}
+use Rattle.format.proofs.Walk.{reached-place, reached-child, reached-out, Out, ReachedAt}
 
 -- ---- the bit with a number
 

@@ -11,28 +11,19 @@ use borrow.Author.Tests.{le-leb, lt-leb}
 use lib.ListN.{length, getD, take, drop, length-drop}
 use lib.Seq.{take-all}
 use Rattle.format.specs.Seq.{All, numbersFrom, rankIn, total, upTo}
-use Rattle.format.specs.Trie.{onBits}
+use Rattle.format.specs.Trie.{onBits, bit, childAt}
 use Rattle.format.specs.Page.{Byte}
-use Rattle.format.specs.Image.{bandLevels, imageLevels, keyCount, keysOf, outLinkCount, pageB, pageCount, pageLevels, pageNodes, pageNumber, pagePairs, pageRoots, pageT, rootCount}
+use Rattle.format.specs.Image.{bandLevels, imageLevels, keyCount, keysOf, outLinkCount, pageB, pageCount, pageLevels, pageNodes, pageNumber, pagePairs, pageRoots, pageT, rootCount, pageWith, prefixesAt, depth}
 use Rattle.format.specs.Answer.{pageOf, rootOf}
+use Rattle.format.specs.Place.{offset, before, Reached}
 use Rattle.format.proofs.Checked.{Checked}
 use Rattle.format.proofs.Read.{page-four, page-shape, page-roots, next-roots, next-more, next-last, band-roots}
-use Rattle.format.proofs.Back.{image-32}
-use Rattle.format.proofs.Descent.{bit, childAt, node-at, child-place, rank-at, key-prefix}
-use Rattle.format.proofs.Places.{offset, place-child, offset-within, level-next, last-below}
-use Rattle.format.proofs.Levels.{descend-parts, levelAt, prefixesAt, depth, before, childPlace, prefixes-asc, shape-below, level-count, level-valid, next-prefix, next-within, no-prefix, level-of-band, before-roots, before-links, before-next, four, nodes-are, pairs-split, node-is, node-index, node-within, place-within, child-at-place, child-at-index}
+use Rattle.format.proofs.Back.{image-32, keys-descend}
+use Rattle.format.proofs.Descent.{node-at, child-place, rank-at, key-prefix}
+use Rattle.format.proofs.Places.{place-child, offset-within, level-next, last-below}
+use Rattle.format.proofs.Levels.{descend-parts, levelAt, childPlace, prefixes-asc, shape-below, level-count, level-valid, next-prefix, next-within, no-prefix, level-of-band, before-roots, before-links, before-next, four, nodes-are, pairs-split, node-is, node-index, node-within, place-within, child-at-place, child-at-index}
 
 -- ---- the way down
-
--- Place p of page i of band b is node n of the band's level l, and its prefix is x.
-pub record Reached (img : List ℕ) (b i l p n x : ℕ) : Type 0 where
-  pub j : ℕ
-  pub in-band : i < pageCount img b
-  pub in-page : l < 4
-  pub inner : j < length (getD (pageLevels img b i) l [])
-  pub place : p ≡ offset l (pageLevels img b i) + j
-  pub index : n ≡ before img b l i + j
-  pub prefix : getD (prefixesAt img (depth b l)) n 0 ≡ x
 
 -- the out-link of a place past the page's nodes
 abbrev pub outLink : List ℕ → ℕ → ℕ → ℕ → ℕ
@@ -151,7 +142,7 @@ module _ (img : List ℕ) (a : All Byte img) (c : Checked img) (some : 1 ≤ key
 
   -- the root of a key in band b
   pub root-is : (key b n : ℕ) → n < length (prefixesAt img (4 * (b - 1))) → getD (prefixesAt img (4 * (b - 1))) n 0 ≡ key / 2 ^ (36 - 4 * b) → rootOf img key b ≡ n
-  unfolding rootOf prefixesAt
+  unfolding rootOf
   root-is key b n h e = ap (rankIn (prefixesAt img (4 * (b - 1)))) (sym e) ∙ prefix-rank (4 * (b - 1)) n h
 
   -- T rises from page to page
@@ -163,7 +154,7 @@ module _ (img : List ℕ) (a : All Byte img) (c : Checked img) (some : 1 ≤ key
 
   -- the page of a root, by its number in the image
   pub page-is : (key b i : ℕ) → 1 ≤ b → b ≤ 8 → i < pageCount img b → pageT img b i ≤ rootOf img key b → rootOf img key b < pageT img b i + pageRoots img b i → pageOf img key b ≡ pageNumber img b i
-  unfolding pageOf
+  unfolding pageOf pageWith
   page-is key b i lo hi h k m =
       ap (pageNumber img b)
       (last-below (pageCount img b) (λ j. leb (pageT img b j) (rootOf img key b)) i h (le-leb (pageT img b i) (rootOf img key b) k)
@@ -172,12 +163,12 @@ module _ (img : List ℕ) (a : All Byte img) (c : Checked img) (some : 1 ≤ key
 
   -- a key that is listed has its prefix at each level
   pub listed-prefix : (key d : ℕ) → d ≤ 32 → List·Memᴰ key (keysOf img) → List·Memᴰ (key / 2 ^ (32 - d)) (prefixesAt img d)
-  unfolding keysOf prefixesAt
+  unfolding prefixesAt
   listed-prefix key d h m =
       let n : length (drop d (imageLevels img)) ≡ 32 - d = length-drop d (imageLevels img) ∙ ap (_- d) (image-32 img a c) in
       subst (λ (w : ℕ). List·Memᴰ (key / 2 ^ w) (prefixesAt img d)) n
       (key-prefix key (length (prefixesAt img d)) (prefixesAt img d) (drop d (imageLevels img)) (shape-below img a c some d)
-      (subst (λ (l : List ℕ). List·Memᴰ key l) (sym (descend-parts (0 ∷ []) d (imageLevels img))) m))
+      (subst (λ (l : List ℕ). List·Memᴰ key l) (keys-descend img a c ∙ sym (descend-parts (0 ∷ []) d (imageLevels img))) m))
 
 -- ---- every place of a page is a node's
 

@@ -4,13 +4,12 @@ use Prim.Native.Nat.{ℕ, _+_, _-_, _*_, _/_, _^_}
 use mathlib.Core.Bool.{Bool, _&&_, cond}
 use mathlib.Core.List.{List, [], _∷_, _++_, map}
 use lib.Dec.{leb, ltb}
-use lib.ListN.{length, getD, take}
+use lib.ListN.{length, getD}
 use Rattle.format.specs.declared.Range.{Range}
 use Rattle.format.specs.declared.Rectangle.{Rectangle}
-use Rattle.format.specs.Seq.{select, isIn, rankIn, lastBelow}
+use Rattle.format.specs.Seq.{select, isIn, rankIn}
 use Rattle.format.specs.Key.{keyOf, holderOf, slotOf}
-use Rattle.format.specs.Trie.{descend}
-use Rattle.format.specs.Image.{bands, keyCount, liftOf, pageCount, pageNumber, pageT, imageLevels, keysOf, listOf}
+use Rattle.format.specs.Image.{bands, keyCount, liftOf, pageNumber, pageWith, prefixesAt, keysOf, listOf}
 use Rattle.format.specs.Question.{Question, Outcome, settle, filled, imageQuestions}
 
 -- ---- the checker: 1 to 13, with 35
@@ -30,11 +29,11 @@ pub data LookupAnswer : Type 0 where
 
 -- the number of the key's root in band b: the rank of the key's first bits among the prefixes at the band's first level
 unfoldable pub rootOf : List ℕ → ℕ → ℕ → ℕ
-rootOf img key b = rankIn (descend (0 ∷ []) (take (4 * (b - 1)) (imageLevels img))) (key / 2 ^ (36 - 4 * b))
+rootOf img key b = rankIn (prefixesAt img (4 * (b - 1))) (key / 2 ^ (36 - 4 * b))
 
--- the number of the page that holds the key's root in band b: the last whose T is at or below the root's number
+-- the number of the page that holds the key's root in band b
 unfoldable pub pageOf : List ℕ → ℕ → ℕ → ℕ
-pageOf img key b = pageNumber img b (lastBelow (pageCount img b) (λ i. leb (pageT img b i) (rootOf img key b)))
+pageOf img key b = pageNumber img b (pageWith img b (rootOf img key b))
 
 unfoldable pub lookupAnswer : List ℕ → ℕ → LookupAnswer
 lookupAnswer img key = cond (isIn key (keysOf img)) (listed (rankIn (keysOf img) key) (map (pageOf img key) bands)) absent

@@ -3,9 +3,9 @@
 use Prim.Native.Nat.{ℕ, _+_, _-_, _*_}
 use mathlib.Core.Bool.{cond}
 use mathlib.Core.List.{List, [], _∷_, map, flatMap}
-use lib.Dec.{ltb, eqb}
-use lib.ListN.{getD}
-use Rattle.format.specs.Seq.{numbersFrom, upTo, total}
+use lib.Dec.{eqb, leb, ltb}
+use lib.ListN.{getD, take}
+use Rattle.format.specs.Seq.{numbersFrom, upTo, total, lastBelow}
 use Rattle.format.specs.Key.{unwoven}
 use Rattle.format.specs.Trie.{onBits, descend}
 use Rattle.format.specs.Page.{levelsIn, nodeCount, numberAt, pairsAt}
@@ -55,6 +55,10 @@ nextT img b i = cond (ltb (i + 1) (pageCount img b)) (pageT img b (i + 1)) (root
 unfoldable pub pageRoots : List ℕ → ℕ → ℕ → ℕ
 pageRoots img b i = nextT img b i - pageT img b i
 
+-- the page of band b that a root's number leads to: the last whose T is at or below it
+unfoldable pub pageWith : List ℕ → ℕ → ℕ → ℕ
+pageWith img b root = lastBelow (pageCount img b) (λ i. leb (pageT img b i) root)
+
 -- the page's four levels, the nodes they call for, and the on bits of the fourth: the page's out-links
 unfoldable pub pageLevels : List ℕ → ℕ → ℕ → List (List ℕ)
 pageLevels img b i = levelsIn 4 (pageRoots img b i) (pagePairs img b i)
@@ -75,9 +79,17 @@ bandLevels img b = map (bandLevel img b) (upTo 4)
 unfoldable pub imageLevels : List ℕ → List (List ℕ)
 imageLevels img = flatMap (bandLevels img) bands
 
+-- level l, from 0, of band b
+abbrev pub depth : ℕ → ℕ → ℕ
+depth b l = 4 * (b - 1) + l
+
+-- the prefixes that the ways from level 1 down through d levels spell, in the order of level d's on bits
+unfoldable pub prefixesAt : List ℕ → ℕ → List ℕ
+prefixesAt img d = descend (0 ∷ []) (take d (imageLevels img))
+
 -- paper 01's "list" of an image: the keys that the ways down to level 32's on bits spell, in the order of these, and the admissions
 unfoldable pub keysOf : List ℕ → List ℕ
-keysOf img = descend (0 ∷ []) (imageLevels img)
+keysOf img = prefixesAt img 32
 
 unfoldable pub listOf : List ℕ → List (ℕ × ℕ)
 listOf img = unwoven (keysOf img)

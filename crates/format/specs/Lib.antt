@@ -40,3 +40,6 @@ pub mod Bounds
 pub mod Flip
 -- the sample plates
 pub mod Plates
+-- for crates below the jobs: where a page's nodes stand, and how the keys of a prefix lie to a rectangle
+pub mod Place
+pub mod Cell

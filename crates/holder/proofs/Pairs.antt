@@ -11,8 +11,9 @@ use lib.Pow.{shr-shr}
 use Rattle.format.specs.Key.{holderOf}
 use Rattle.format.specs.Scan.{isHolders, largestRecord}
 use Rattle.format.specs.Seq.{isIn, rankIn}
+use Rattle.format.specs.Image.{prefixesAt}
 use Rattle.format.proofs.Largest.{largest-record-append, largest-record-none}
-use Rattle.format.proofs.Levels.{prefixesAt, prefixes-asc}
+use Rattle.format.proofs.Levels.{prefixes-asc}
 use Rattle.pages.proofs.Pages.{bytes, checked}
 use Rattle.subtries.specs.Subtrie.{setBit, setOf}
 use Rattle.subtries.proofs.Next.{rank-run}

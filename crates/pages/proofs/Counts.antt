@@ -9,14 +9,14 @@ use native.Mathlib.Omega.{arith}
 use borrow.Author.Tests.{lt-ltb, le-ltb}
 use lib.Dec.{ltb}
 use lib.ListN.{length}
-use Rattle.format.specs.Image.{keyCount, pageCount, pageNumber, pagesBefore, rootCount}
+use Rattle.format.specs.Image.{keyCount, pageCount, pageNumber, pagesBefore, rootCount, prefixesAt}
 use Rattle.format.specs.Question.{outLinksDue}
 use Rattle.format.specs.Seq.{rankIn}
 use Rattle.format.proofs.Accepted.{facts}
 use Rattle.format.proofs.Back.{pagesBefore-suc}
 use Rattle.format.proofs.Bytes.{number-small}
 use Rattle.format.proofs.Checked.{cond-yes, cond-no}
-use Rattle.format.proofs.Levels.{prefixesAt, prefixes-keys}
+use Rattle.format.proofs.Levels.{prefixes-keys}
 use Rattle.format.proofs.Members.{rank-le}
 use Rattle.format.proofs.Walk.{roots-count}
 use Rattle.pages.specs.Page.{Ready}
@@ -31,7 +31,7 @@ next-first img b h = omega (arith, pagesBefore-suc img b h, ap (pagesBefore img)
 
 module _ {img : List ℕ} (r : Ready img) where
   pub keys-count : length (prefixesAt img 32) ≡ keyCount img
-  keys-count = ap length (prefixes-keys img (bytes r) (checked r) (r .some)) ∙ facts img (r .accepted) .keys .count-is
+  keys-count = ap length (prefixes-keys img) ∙ facts img (r .accepted) .keys .count-is
 
   -- a band's out-links are the roots of the band below, or the keys
   pub links-count : (b : ℕ) → 1 ≤ b → b ≤ 8 → length (prefixesAt img (4 * b)) ≡ outLinksDue img b

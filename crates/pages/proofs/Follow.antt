@@ -8,16 +8,17 @@ use native.Mathlib.Decide.{decLt}
 use native.Mathlib.Omega.{arith}
 use lib.ListN.{length, getD, take}
 use Rattle.format.specs.Page.{Byte, pairsAt}
-use Rattle.format.specs.Trie.{onBits}
+use Rattle.format.specs.Trie.{onBits, bit}
 use Rattle.format.specs.Answer.{absent, lookupAnswer}
-use Rattle.format.specs.Image.{pagePairs, pageT}
+use Rattle.format.specs.Image.{pagePairs, pageT, depth, prefixesAt}
+use Rattle.format.specs.Key.{keyBit}
+use Rattle.format.specs.Place.{Reached}
 use Rattle.format.proofs.Lists.{all-get}
 use Rattle.format.proofs.Read.{page-within}
 use Rattle.format.proofs.Counting.{marks}
-use Rattle.format.proofs.Descent.{bit}
-use Rattle.format.proofs.Lookup.{keyBit, longer, place-off}
-use Rattle.format.proofs.Levels.{depth, prefixesAt, childPlace}
-use Rattle.format.proofs.Walk.{Reached, Out, reached-root, reached-place, reached-child, reached-out}
+use Rattle.format.proofs.Lookup.{longer, place-off}
+use Rattle.format.proofs.Levels.{childPlace}
+use Rattle.format.proofs.Walk.{Out, reached-root, reached-place, reached-child, reached-out}
 use Rattle.nodes.specs.declared.Words.{Words}
 use Rattle.nodes.specs.Words.{halfAt, nodeIn, onesBefore, wordsIn}
 use Rattle.nodes.proofs.Calls.{all-counted, counted, node-read}

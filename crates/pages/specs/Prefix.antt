@@ -4,7 +4,7 @@ use mathlib.Core.Path.{_≡_}
 use mathlib.Core.List.{List}
 use Prim.Native.Nat.{ℕ, _<_}
 use lib.ListN.{length, getD}
-use Rattle.format.proofs.Levels.{prefixesAt}
+use Rattle.format.specs.Image.{prefixesAt}
 
 -- prefix x has the number n among those of d bits
 pub record AtPrefix (img : List ℕ) (d n x : ℕ) : Type 0 where

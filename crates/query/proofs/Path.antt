@@ -7,12 +7,12 @@ use native.Mathlib.Nat.{div-one}
 use native.Mathlib.Omega.{arith}
 use lib.ListN.{length, getD, set, replicate, length-map}
 use Rattle.format.specs.Seq.{numbersFrom, total}
-use Rattle.format.specs.Image.{bands, pageCount, pageNumber, pageRoots, pageT, pagesBefore, rootCount}
+use Rattle.format.specs.Image.{bands, pageCount, pageNumber, pageRoots, pageT, pagesBefore, rootCount, prefixesAt}
 use Rattle.format.specs.Answer.{listed, lookupAnswer, pageOf, rootOf}
 use Rattle.format.proofs.Lists.{numbers-split, length-numbers}
 use Rattle.format.proofs.Accepted.{facts}
 use Rattle.format.proofs.Lookup.{place-listed}
-use Rattle.format.proofs.Levels.{prefixesAt, prefixes-keys}
+use Rattle.format.proofs.Levels.{prefixes-keys}
 use Rattle.format.proofs.Walk.{page-is, root-is, roots-count}
 use Rattle.pages.specs.declared.Band.{Band}
 use Rattle.pages.specs.declared.Page.{Page}
@@ -144,4 +144,4 @@ module _ {img : List ℕ} {key : ℕ} {pages : List ℕ} {link first number : �
       let r = s .ready in
       let e : number ≡ 9 = omega (arith, s .to) in
       let k = facts img (r .accepted) in
-      omega (arith, s .at .within, ap (λ (n : ℕ). length (prefixesAt img (4 * (n - 1)))) e, ap length (prefixes-keys img (bytes r) (checked r) (r .some)), k .keys .count-is, k .few)
+      omega (arith, s .at .within, ap (λ (n : ℕ). length (prefixesAt img (4 * (n - 1)))) e, ap length (prefixes-keys img), k .keys .count-is, k .few)

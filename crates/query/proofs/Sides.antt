@@ -3,9 +3,9 @@
 use mathlib.Core.Path.{_≡_, refl}
 use mathlib.Core.List.{List}
 use Prim.Native.Nat.{ℕ, zero, suc, _+_, _/_, _%_}
-use Rattle.format.proofs.Descent.{bit}
 use Rattle.nodes.specs.Words.{nodeIn, onesBefore}
 use Rattle.pages.specs.Page.{childIn}
+use Rattle.format.specs.Trie.{bit}
 
 pub bit-first : (n s : ℕ) → s ≡ 0 → n / 2 ≡ bit s n
 bit-first n s e = rw e

@@ -1,11 +1,11 @@
 // The way of a key down the bands.
 ghost use mathlib.Core.Path.{_≡_};
 ghost use Prim.Native.Nat.{_+_, _-_, _*_, _/_, _^_, _≤_, _<_};
-ghost use Rattle.format.proofs.Descent.{bit};
-ghost use Rattle.format.proofs.Lookup.{keyBit};
 ghost use Rattle.pages.specs.Page.{Ready, HeadRead, childIn};
 ghost use Rattle.pages.specs.Prefix.{AtPrefix};
 ghost use Rattle.query.specs.Way.{WayRight, FoundRight};
+ghost use Rattle.format.specs.Trie.{bit};
+ghost use Rattle.format.specs.Key.{keyBit};
 use crate::Found;
 use crate::Presence;
 use crate::no_pages;

@@ -8,8 +8,8 @@ use native.Mathlib.Nat.{add-zero}
 use native.Mathlib.Omega.{arith}
 use lib.ListN.{getD}
 use Rattle.format.specs.Seq.{isIn, rankIn}
-use Rattle.format.specs.Image.{pagePairs}
-use Rattle.format.proofs.Levels.{prefixesAt, depth, prefixes-asc}
+use Rattle.format.specs.Image.{pagePairs, prefixesAt, depth}
+use Rattle.format.proofs.Levels.{prefixes-asc}
 use Rattle.format.proofs.Walk.{reached-place}
 use Rattle.reader.specs.Page.{nodeOf}
 use Rattle.pages.specs.Page.{Ready}

@@ -10,9 +10,10 @@ use lib.Count.{ones, ones-le, ones-step}
 use native.Mathlib.Nat.{add-zero}
 use lib.ListN.{length, getD}
 use Rattle.format.specs.Seq.{isIn, rankIn}
+use Rattle.format.specs.Image.{depth, prefixesAt}
 use Rattle.format.proofs.Trie.{Asc}
 use Rattle.format.proofs.Descent.{asc-lt, at-rank}
-use Rattle.format.proofs.Levels.{depth, prefixesAt, prefixes-asc}
+use Rattle.format.proofs.Levels.{prefixes-asc}
 use Rattle.pages.specs.Page.{Ready}
 use Rattle.pages.proofs.Pages.{bytes, checked}
 use Rattle.subtries.proofs.Ranks.{rank-agree, rank-next}

@@ -8,9 +8,9 @@ use native.Mathlib.Omega.{arith}
 use lib.ListN.{take, drop}
 use Rattle.format.specs.Trie.{onBits}
 use Rattle.format.specs.Seq.{rankIn}
-use Rattle.format.specs.Image.{pagePairs, pageRoots, pageT}
+use Rattle.format.specs.Image.{pagePairs, pageRoots, pageT, prefixesAt}
 use Rattle.format.proofs.Descent.{onBits-suc}
-use Rattle.format.proofs.Levels.{childPlace, prefixesAt}
+use Rattle.format.proofs.Levels.{childPlace}
 use Rattle.format.proofs.Read.{pairs-240}
 use Rattle.subtries.specs.declared.Spot.{Spot}
 use Rattle.pages.specs.Page.{Ready}

@@ -10,11 +10,11 @@ use lib.ListN.{length, getD, take, drop, length-drop}
 use lib.Seq.{getD-drop, getD-take, length-take-le}
 use Rattle.format.specs.Seq.{rankIn}
 use Rattle.format.specs.Page.{Byte, pairsAt}
-use Rattle.format.specs.Image.{pageB, pageNodes, pageNumber, pagePairs, pageRoots, pageT}
+use Rattle.format.specs.Image.{pageB, pageNodes, pageNumber, pagePairs, pageRoots, pageT, depth, prefixesAt}
 use Rattle.format.proofs.Descent.{asc-lt, isIn-mem, mem-at}
 use Rattle.format.proofs.Lists.{all-take, all-drop}
 use Rattle.format.proofs.Read.{page-within}
-use Rattle.format.proofs.Levels.{depth, prefixesAt, prefixes-asc}
+use Rattle.format.proofs.Levels.{prefixes-asc}
 use Rattle.format.proofs.Walk.{reached-index, reached-place, reached-valid}
 use Rattle.reader.specs.Page.{nodeOf}
 use Rattle.reader.proofs.Nodes.{pair-at}

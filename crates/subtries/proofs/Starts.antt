@@ -8,10 +8,12 @@ use native.Mathlib.Decide.{decLt, ℕ-discrete}
 use native.Mathlib.Omega.{arith}
 use lib.ListN.{getD}
 use Rattle.format.specs.Seq.{isIn, rankIn}
-use Rattle.format.specs.Image.{pageNodes, pagePairs}
-use Rattle.format.proofs.Descent.{bit, childAt, child-of-mem, mem-at}
-use Rattle.format.proofs.Levels.{prefixesAt, levelAt, depth, childPlace, prefixes-asc, prefixes-next, level-valid, next-prefix, next-within}
-use Rattle.format.proofs.Walk.{Reached, Out, outLink, prefix-rank, reached-node, reached-index, reached-valid, reached-off, reached-child, reached-out}
+use Rattle.format.specs.Image.{pageNodes, pagePairs, prefixesAt, depth}
+use Rattle.format.specs.Trie.{bit, childAt}
+use Rattle.format.specs.Place.{Reached}
+use Rattle.format.proofs.Descent.{child-of-mem, mem-at}
+use Rattle.format.proofs.Levels.{levelAt, childPlace, prefixes-asc, prefixes-next, level-valid, next-prefix, next-within}
+use Rattle.format.proofs.Walk.{Out, outLink, prefix-rank, reached-node, reached-index, reached-valid, reached-off, reached-child, reached-out}
 use Rattle.pages.specs.Page.{Ready}
 use Rattle.subtries.specs.Spot.{ReachedTo, LevelStart}
 use Rattle.subtries.specs.Subtrie.{asBit}

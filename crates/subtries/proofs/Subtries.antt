@@ -6,9 +6,10 @@ use Prim.Native.Nat.{ℕ, suc, _+_, _-_, _*_, _≤_, _<_}
 use native.Mathlib.Omega.{arith}
 use lib.ListN.{getD}
 use Rattle.format.specs.Seq.{rankIn}
-use Rattle.format.specs.Image.{pageT}
-use Rattle.format.proofs.Levels.{depth, prefixesAt, childPlace}
-use Rattle.format.proofs.Walk.{outLink, Reached, reached-root, reached-place}
+use Rattle.format.specs.Image.{pageT, depth, prefixesAt}
+use Rattle.format.specs.Place.{Reached}
+use Rattle.format.proofs.Levels.{childPlace}
+use Rattle.format.proofs.Walk.{outLink, reached-root, reached-place}
 use Rattle.nodes.specs.Words.{onesBefore}
 use Rattle.pages.specs.declared.Page.{Page}
 use Rattle.pages.specs.Page.{Ready, PageRead, childIn}

@@ -5,9 +5,8 @@ use mathlib.Core.Path.{_≡_}
 use Prim.Native.Nat.{ℕ, _+_, _-_, _*_, _≤_, _<_}
 use lib.ListN.{length, getD, set}
 use Rattle.format.specs.Seq.{rankIn}
-use Rattle.format.specs.Image.{pageCount, pageNumber, pageRoots, pageT}
-use Rattle.format.proofs.Levels.{depth, prefixesAt}
-use Rattle.format.proofs.Walk.{Reached}
+use Rattle.format.specs.Image.{pageCount, pageNumber, pageRoots, pageT, depth, prefixesAt}
+use Rattle.format.specs.Place.{Reached}
 use Rattle.subtries.specs.declared.Spot.{Spot}
 
 -- a node of level l with prefix y

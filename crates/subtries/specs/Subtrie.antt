@@ -5,7 +5,7 @@ use mathlib.Core.Path.{_≡_}
 use mathlib.Core.List.{List}
 use Prim.Native.Nat.{ℕ, zero, suc, _+_, _-_, _*_, _/_, _%_, _^_, _<_}
 use Rattle.format.specs.Seq.{isIn, rankIn}
-use Rattle.format.proofs.Levels.{prefixesAt}
+use Rattle.format.specs.Image.{prefixesAt}
 use Rattle.nodes.specs.Words.{onesBefore}
 use Rattle.reader.specs.Page.{nodeOf}
 

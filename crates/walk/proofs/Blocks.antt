@@ -7,8 +7,8 @@ use native.Mathlib.Numerals.{add-one}
 use native.Mathlib.Omega.{arith}
 use lib.Pow.{pow-add}
 use Rattle.format.specs.Key.{gather, holderOf, slotOf}
+use Rattle.format.specs.Cell.{lowest, highest}
 use Rattle.format.proofs.Keys.{gather-small}
-use Rattle.format.proofs.Cells.{lowest, highest}
 use Rattle.walk.proofs.Endings.{power-positive}
 
 -- a number of d pairs of bits has nothing past them

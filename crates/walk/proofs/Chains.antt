@@ -9,8 +9,10 @@ use native.Mathlib.Decide.{ℕ-discrete}
 use native.Mathlib.Omega.{arith}
 use lib.ListN.{length, getD, set}
 use Rattle.format.specs.Seq.{isIn}
-use Rattle.format.proofs.Descent.{childAt, isIn-mem, mem-at, node-at}
-use Rattle.format.proofs.Levels.{prefixesAt, levelAt, level-count, level-valid, next-prefix, next-within}
+use Rattle.format.specs.Trie.{childAt}
+use Rattle.format.specs.Image.{prefixesAt}
+use Rattle.format.proofs.Descent.{isIn-mem, mem-at, node-at}
+use Rattle.format.proofs.Levels.{levelAt, level-count, level-valid, next-prefix, next-within}
 use Rattle.pages.specs.Page.{Ready}
 use Rattle.subtries.specs.Spot.{Spots}
 use Rattle.subtries.specs.Subtrie.{asBit, setBit, SubtrieRead}

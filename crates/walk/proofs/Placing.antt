@@ -12,8 +12,9 @@ use lib.Dec.{leb}
 use Rattle.format.specs.declared.Rectangle.{Rectangle}
 use Rattle.format.specs.Key.{holderOf, slotOf}
 use Rattle.format.specs.Answer.{contains, inside, isWithin}
+use Rattle.format.specs.Cell.{Apart as CellApart, before-holders, after-holders, before-slots, after-slots}
 use Rattle.format.proofs.Lists.{and-both}
-use Rattle.format.proofs.Cells.{Apart as CellApart, before-holders, after-holders, before-slots, after-slots, after-range, within-range}
+use Rattle.format.proofs.Cells.{after-range, within-range}
 use Rattle.walk.specs.declared.block.Block.{Block}
 use Rattle.walk.specs.declared.block.Place.{Place}
 use Rattle.walk.specs.declared.block.Place.the-variants.{Apart, Inside, Across}

@@ -11,13 +11,14 @@ use lib.ListN.{length, getD}
 use lib.Pow.{pow-add}
 use Rattle.format.specs.declared.Rectangle.{Rectangle}
 use Rattle.format.specs.Seq.{isIn, rankIn, select}
-use Rattle.format.specs.Image.{keysOf, rootCount}
+use Rattle.format.specs.Image.{keysOf, rootCount, prefixesAt}
 use Rattle.format.specs.Answer.{inside}
+use Rattle.format.specs.Cell.{Apart as CellApart, Covers}
 use Rattle.format.proofs.Accepted.{facts}
 use Rattle.format.proofs.Trie.{Asc}
-use Rattle.format.proofs.Cells.{Apart as CellApart, Covers, apart-outside, covers-inside}
+use Rattle.format.proofs.Cells.{apart-outside, covers-inside}
 use Rattle.format.proofs.Descent.{at-rank, isIn-mem, mem-at}
-use Rattle.format.proofs.Levels.{prefixesAt, prefixes-asc, prefixes-keys}
+use Rattle.format.proofs.Levels.{prefixes-asc, prefixes-keys}
 use Rattle.format.proofs.Walk.{listed-prefix, roots-count}
 use Rattle.walk.specs.declared.block.Place.{Place}
 use Rattle.walk.specs.declared.block.Place.the-variants.{Apart, Inside}
@@ -79,14 +80,14 @@ module _ {img : List ℕ} {b link x : ℕ} (o : Opening img b link x) where
     key-within =
         let r = o .ready in
         let d : 4 * (b - 1) ≡ 32 = omega arith in
-        omega (arith, o .at .within, ap (λ (n : ℕ). length (prefixesAt img n)) d, ap length (prefixes-keys img (bytes r) (checked r) (r .some)))
+        omega (arith, o .at .within, ap (λ (n : ℕ). length (prefixesAt img n)) d, ap length (prefixes-keys img))
 
     -- and the key stands there
     pub key-here : getD (keysOf img) link 0 ≡ x
     key-here =
         let r = o .ready in
         let d : 4 * (b - 1) ≡ 32 = omega arith in
-        ap (λ (l : List ℕ). getD l link 0) (sym (prefixes-keys img (bytes r) (checked r) (r .some))) ∙ ap (λ (n : ℕ). getD (prefixesAt img n) link 0) (sym d) ∙ o .at .prefix
+        ap (λ (l : List ℕ). getD l link 0) (sym (prefixes-keys img)) ∙ ap (λ (n : ℕ). getD (prefixesAt img n) link 0) (sym d) ∙ o .at .prefix
 
     -- so it is listed
     key-there : List·Memᴰ x (keysOf img)

@@ -8,15 +8,14 @@ use native.Mathlib.Omega.{arith}
 use lib.ListN.{length}
 use Rattle.format.specs.declared.Rectangle.{Rectangle}
 use Rattle.format.specs.Seq.{All, consIf, select}
-use Rattle.format.specs.Image.{keyCount, keysOf}
+use Rattle.format.specs.Image.{keyCount, keysOf, prefixesAt}
 use Rattle.format.specs.Answer.{inside, memberKeys}
 use Rattle.format.specs.Exact.{Accepted}
+use Rattle.format.specs.Cell.{Covers}
 use Rattle.format.proofs.Accepted.{facts}
-use Rattle.format.proofs.Cells.{Covers}
 use Rattle.format.proofs.Depth.{no-keys-listed}
 use Rattle.format.proofs.Members.{select-short}
 use Rattle.format.proofs.Trie.{Fits}
-use Rattle.format.proofs.Levels.{prefixesAt}
 use Rattle.walk.specs.declared.block.Place.{Place}
 use Rattle.walk.specs.declared.block.Place.the-variants.{Inside}
 use Rattle.walk.specs.Block.{PlaceRight}

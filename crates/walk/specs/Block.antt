@@ -6,7 +6,7 @@ use Prim.Native.Nat.{ℕ, _≤_, _<_}
 use Rattle.format.specs.declared.Range.{Range}
 use Rattle.format.specs.declared.Rectangle.{Rectangle}
 use Rattle.format.specs.Key.{holderOf, slotOf}
-use Rattle.format.proofs.Cells.{Apart as CellApart, Covers}
+use Rattle.format.specs.Cell.{Apart as CellApart, Covers}
 use Rattle.walk.specs.declared.block.Block.{Block}
 use Rattle.walk.specs.declared.block.Place.{Place}
 use Rattle.walk.specs.declared.block.Place.the-variants.{Apart, Inside, Across}

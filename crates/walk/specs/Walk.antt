@@ -7,8 +7,7 @@ use Prim.Native.Nat.{ℕ, suc, _+_, _-_, _*_, _^_, _≤_, _<_}
 use lib.Dec.{leb, ltb}
 use lib.ListN.{length, set}
 use Rattle.format.specs.Seq.{rankIn, select}
-use Rattle.format.specs.Image.{keysOf}
-use Rattle.format.proofs.Levels.{prefixesAt}
+use Rattle.format.specs.Image.{keysOf, prefixesAt}
 use Rattle.pages.specs.Page.{Ready}
 use Rattle.pages.specs.Prefix.{AtPrefix}
 use Rattle.subtries.specs.Subtrie.{levelSet}

@@ -3,13 +3,13 @@ use mathlib.Core.Path.{_≡_, sym, ap, subst, _∙_}
 use Prim.Native.Nat.{_+_, _-_, _*_, _/_, _^_}
 use native.Mathlib.Omega.{arith}
 use borrow.Author.Needs.{needs}
-use Rattle.format.proofs.Descent.{bit}
 use Rattle.pages.specs.Prefix.{AtPrefix}
 use Rattle.pages.proofs.Pages.{B-small, T-small}
 use Rattle.pages.proofs.Follow.{Follow, page-small, follow-start, follow-place, follow-off, follow-next, follow-end}
 use Rattle.pages.proofs.Heads.{opened, opened-read, head-fits, nodes-asked, nodes-are}
 use Rattle.query.proofs.way.follow.Statement.{statement}
 use Rattle.query.proofs.way.follow.Tie as tie
+use Rattle.format.specs.Trie.{bit}
 
 abbrev Inv-loop : tie.InvT-loop
 Inv-loop image head key words nodes place₀ level₀ place level =
