@@ -29,6 +29,15 @@ yes-of-returns qs a b e = go (firstNo qs) refl e
     go none d k = (d, cc)
     go (some m) d k = absurd (let z : _≡_ {A = ℕ} 0 1 = cc in omega arith)
 
+-- and the other way round
+pub settle-no : {A : Type 0} (qs : List Question) (a : A) (n : ℕ) → firstNo qs ≡ some n → settle qs a ≡ refused n
+unfolding settle outcome
+settle-no qs a n e = rw e
+
+pub settle-yes : {A : Type 0} (qs : List Question) (a : A) → firstNo qs ≡ none → settle qs a ≡ returns a
+unfolding settle outcome
+settle-yes qs a e = rw e
+
 -- 14 and 15 are all that the writer asks of a list
 pub list-writable : (keys : List ℕ) → length keys ≤ 4096 → ascending keys ≡ true → firstNo (listQuestions keys) ≡ none
 unfolding listQuestions

@@ -21,7 +21,7 @@ use Rattle.format.proofs.Read.{page-four, page-shape, page-roots, band-
 use Rattle.format.proofs.Counters.{T-counts, B-counts}
 use Rattle.format.proofs.Back.{image-shape, image-32}
 use Rattle.format.proofs.Descent.{child-place, length-below, child-prefix, bit-of-mem}
-use Rattle.format.proofs.Places.{place-node, place-child, offset-all, offset-within, offset-le, level-next, run-at, run-within, run-before, fours-at}
+use Rattle.format.proofs.Places.{row-end, row-within, row-node, row-child, level-next, run-at, run-within, run-before, fours-at}
 
 pub descend-parts : (ps : List ℕ) (d : ℕ) (ls : List (List ℕ)) → descend (descend ps (take d ls)) (drop d ls) ≡ descend ps ls
 unfolding descend
@@ -146,8 +146,8 @@ module _ (img : List ℕ) (a : All Byte img) (c : Checked img) (some : 1 ≤ key
       four = page-four img a c b lo hi i
 
       pub nodes-are : offset 4 (pageLevels img b i) ≡ pageNodes img b i
-      unfolding pageNodes
-      nodes-are = ap (λ (n : ℕ). offset n (pageLevels img b i)) (sym four) ∙ offset-all (pageRoots img b i) (pageLevels img b i) shaped
+      unfolding pageNodes pageLevels
+      nodes-are = row-end (pagePairs img b i) (pageRoots img b i) shaped
 
       pub pairs-split : pagePairs img b i ≡ flatten (pageLevels img b i) ++ drop (pageNodes img b i) (pagePairs img b i)
       unfolding pageLevels pageNodes
@@ -156,9 +156,8 @@ module _ (img : List ℕ) (a : All Byte img) (c : Checked img) (some : 1 ≤ key
       -- node j of level l of the page: its place and its index in the band
       module _ (l j : ℕ) (lv : l < 4) (inner : j < length (getD (pageLevels img b i) l [])) where
         pub node-is : getD (pagePairs img b i) (offset l (pageLevels img b i) + j) 0 ≡ getD (getD (pageLevels img b i) l []) j 0
-        node-is =
-            ap (λ (ps : List ℕ). getD ps (offset l (pageLevels img b i) + j) 0) pairs-split
-            ∙ place-node l (pageLevels img b i) (drop (pageNodes img b i) (pagePairs img b i)) j (omega (arith, four)) inner
+        unfolding pageLevels
+        node-is = row-node (pagePairs img b i) (pageRoots img b i) shaped l j lv inner
 
         pub node-index : getD (levelAt img (depth b l)) (before img b l i + j) 0 ≡ getD (getD (pageLevels img b i) l []) j 0
         unfolding before bandLevel upTo
@@ -178,17 +177,13 @@ module _ (img : List ℕ) (a : All Byte img) (c : Checked img) (some : 1 ≤ key
             )
 
         pub place-within : offset l (pageLevels img b i) + j < pageNodes img b i
-        place-within = omega (arith, nodes-are, offset-within l (pageLevels img b i) (omega (arith, four)), offset-le (suc l) (pageLevels img b i), ap (λ (n : ℕ). offset n (pageLevels img b i)) four)
-
-        first-place : pageRoots img b i + onBits (take (offset l (pageLevels img b i) + j) (pagePairs img b i)) ≡ offset (suc l) (pageLevels img b i) + onBits (take j (getD (pageLevels img b i) l []))
-        first-place =
-            ap (λ (ps : List ℕ). pageRoots img b i + onBits (take (offset l (pageLevels img b i) + j) ps)) pairs-split
-            ∙ place-child (pageRoots img b i) l (pageLevels img b i) (drop (pageNodes img b i) (pagePairs img b i)) j shaped (omega (arith, four)) (omega arith)
+        unfolding pageLevels pageNodes
+        place-within = row-within (pagePairs img b i) (pageRoots img b i) shaped l j lv inner
 
         -- the child's place in the page
         pub child-at-place : (t : ℕ) → childPlace img b i (offset l (pageLevels img b i) + j) t ≡ offset (suc l) (pageLevels img b i) + childAt (getD (pageLevels img b i) l []) j t
-        child-at-place zero = first-place
-        child-at-place (suc t) = omega (arith, first-place, node-is)
+        unfolding pageLevels
+        child-at-place t = row-child (pagePairs img b i) (pageRoots img b i) shaped l j lv inner t
 
         first-index : onBits (take (before img b l i + j) (levelAt img (depth b l))) ≡ total (map (λ k. onBits (getD (pageLevels img b k) l [])) (numbersFrom 0 i)) + onBits (take j (getD (pageLevels img b i) l []))
         unfolding before bandLevel upTo

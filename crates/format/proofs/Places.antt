@@ -7,14 +7,15 @@ use Prim.Native.Nat.{ℕ, zero, suc, _+_, _*_, _≤_, _<_}
 use native.Mathlib.Nat.{add-zero, zero-add}
 use native.Mathlib.Omega.{arith}
 use native.Mathlib.Decide.{decLt}
-use lib.ListN.{length, getD, take, length-append, List·getD-append}
+use lib.ListN.{length, getD, take, drop, length-append, List·getD-append}
 use lib.Seq.{getD-append-add, take-append-add, take-append-le}
 use Rattle.format.specs.Seq.{lastBelow, numbersFrom, total}
-use Rattle.format.specs.Trie.{onBits}
-use Rattle.format.specs.Page.{nodeCount}
+use Rattle.format.specs.Trie.{childAt, onBits}
+use Rattle.format.specs.Page.{levelsIn, nodeCount}
 use Rattle.format.specs.Place.{offset}
 use Rattle.format.proofs.Trie.{Shape}
 use Rattle.format.proofs.Subtries.{onBits-append}
+use Rattle.format.proofs.Bytes.{length-levelsIn, levels-join}
 
 -- the on bits of a page's first l levels
 abbrev linked : ℕ → List (List ℕ) → ℕ
@@ -75,6 +76,35 @@ level-next r l [] s h = absurd (omega arith)
 level-next r l (ns ∷ []) s h = absurd (omega arith)
 level-next r zero (ns ∷ ms ∷ page) s h = s .2 .0
 level-next r (suc l) (ns ∷ ms ∷ page) s h = level-next (onBits ns) l (ms ∷ page) (s .2) (omega arith)
+
+-- ---- a row of pairs whose four levels hang together
+
+module _ (ps : List ℕ) (r : ℕ) (shaped : Shape r (levelsIn 4 r ps)) where
+  row-four : length (levelsIn 4 r ps) ≡ 4
+  row-four = length-levelsIn 4 r ps
+
+  pub row-end : offset 4 (levelsIn 4 r ps) ≡ nodeCount r (levelsIn 4 r ps)
+  row-end = ap (λ (n : ℕ). offset n (levelsIn 4 r ps)) (sym row-four) ∙ offset-all r (levelsIn 4 r ps) shaped
+
+  -- the roots and the on bits before a node of level l, or before its end, lead to the next level
+  pub row-first : (l j : ℕ) → l < 4 → j ≤ length (getD (levelsIn 4 r ps) l []) → r + onBits (take (offset l (levelsIn 4 r ps) + j) ps) ≡ offset (suc l) (levelsIn 4 r ps) + onBits (take j (getD (levelsIn 4 r ps) l []))
+  row-first l j lv inner =
+      ap (λ (qs : List ℕ). r + onBits (take (offset l (levelsIn 4 r ps) + j) qs)) (levels-join 4 r ps)
+      ∙ place-child r l (levelsIn 4 r ps) (drop (nodeCount r (levelsIn 4 r ps)) ps) j shaped (omega (arith, row-four)) inner
+
+  -- node j of level l, where it stands in the row, and where its child does
+  module _ (l j : ℕ) (lv : l < 4) (inner : j < length (getD (levelsIn 4 r ps) l [])) where
+    pub row-within : offset l (levelsIn 4 r ps) + j < nodeCount r (levelsIn 4 r ps)
+    row-within = omega (arith, row-end, offset-within l (levelsIn 4 r ps) (omega (arith, row-four)), offset-le (suc l) (levelsIn 4 r ps), ap (λ (n : ℕ). offset n (levelsIn 4 r ps)) row-four)
+
+    pub row-node : getD ps (offset l (levelsIn 4 r ps) + j) 0 ≡ getD (getD (levelsIn 4 r ps) l []) j 0
+    row-node =
+        ap (λ (qs : List ℕ). getD qs (offset l (levelsIn 4 r ps) + j) 0) (levels-join 4 r ps)
+        ∙ place-node l (levelsIn 4 r ps) (drop (nodeCount r (levelsIn 4 r ps)) ps) j (omega (arith, row-four)) inner
+
+    pub row-child : (t : ℕ) → r + childAt ps (offset l (levelsIn 4 r ps) + j) t ≡ offset (suc l) (levelsIn 4 r ps) + childAt (getD (levelsIn 4 r ps) l []) j t
+    row-child zero = row-first l j lv (omega arith)
+    row-child (suc t) = omega (arith, row-first l j lv (omega arith), row-node)
 
 -- ---- runs one after the other
 

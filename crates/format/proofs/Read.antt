@@ -20,8 +20,8 @@ use Rattle.format.proofs.Lists.{all-take, all-drop, total-append, numbe
 use Rattle.format.proofs.Trie.{Shape}
 use Rattle.format.proofs.Shapes.{lastOn}
 use Rattle.format.proofs.Pages.{Page, Paged, Follows, glue, glue-four, glue-roots, glue-shape, glue-level, four-levels, glue-links, lastOn-four, shape-roots, pages-only}
-use Rattle.format.proofs.Bytes.{length-pairs, pairs-small, length-levelsIn, levels-shape, page-back, length-block}
-use Rattle.format.proofs.Checked.{Counts, no-keys, some-keys, Checked, cond-yes, cond-no}
+use Rattle.format.proofs.Bytes.{length-pairs, pairs-small, length-levelsIn, page-back, length-block}
+use Rattle.format.proofs.Checked.{Counts, no-keys, some-keys, Checked, cond-yes, cond-no, nodes-shape, page-nodes}
 
 -- ---- pages within the image
 
@@ -55,11 +55,10 @@ module _ (img : List ℕ) (a : All Byte img) (c : Checked img) (b : ℕ) (lo : 1
   page-four i = length-levelsIn 4 (pageRoots img b i) (pagePairs img b i)
 
   pub page-shape : (i : ℕ) → i < pageCount img b → Shape (pageRoots img b i) (pageLevels img b i)
-  unfolding pageLevels pageNodes pagePairs
+  unfolding pageLevels pagePairs
   page-shape i h =
-      let p = c .page b i lo hi h in
-      levels-shape 4 (pageRoots img b i) (pagePairs img b i) (pairs-small (take 60 (drop (64 * pageNumber img b i + 4) img)) (all-take Byte 60 (drop (64 * pageNumber img b i + 4) img) (all-drop Byte (64 * pageNumber img b i + 4) img a)))
-      (omega (arith, pairs-240 i h, p .within)) (p .positive)
+      nodes-shape (pageRoots img b i) (pagePairs img b i) (pairs-small (take 60 (drop (64 * pageNumber img b i + 4) img)) (all-take Byte 60 (drop (64 * pageNumber img b i + 4) img) (all-drop Byte (64 * pageNumber img b i + 4) img a)))
+      (pairs-240 i h) (page-nodes img b i (c .page b i lo hi h))
 
   pub page-roots : (i : ℕ) → i < pageCount img b → rootsIn (pageLevels img b i) ≡ pageRoots img b i
   page-roots i h = shape-roots (pageRoots img b i) (pageLevels img b i) (page-four i) (page-shape i h)

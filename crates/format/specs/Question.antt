@@ -39,6 +39,11 @@ outcome (some n) a = refused n
 unfoldable pub settle {ℓ} : {A : Type ℓ} → List Question → A → Outcome A
 settle qs a = outcome (firstNo qs) a
 
+-- the outcome of a job that goes on from what another returns
+unfoldable pub andThen : {A B : Type 0} → Outcome A → (A → Outcome B) → Outcome B
+andThen (refused n) next = refused n
+andThen (returns a) next = next a
+
 -- what a job leaves in a lent buffer: after a refusal what it held, else xs in its first places and what it held in the others
 unfoldable pub filled {ℓ} : {A : Type ℓ} → Outcome A → List ℕ → List ℕ → List ℕ
 filled (refused n) xs buffer = buffer
