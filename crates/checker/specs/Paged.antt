@@ -1,18 +1,26 @@
 -- Questions 8 to 12 of a page as its place in the bytes and the pages before it put them.
 -- Assumes nothing.
 use mathlib.Core.Path.{_≡_}
-use mathlib.Core.Bool.{_&&_}
+use mathlib.Core.Bool.{_&&_, cond}
 use mathlib.Core.List.{List, [], _∷_, map}
 use Prim.Native.Nat.{ℕ, _+_, _-_, _*_, _≤_}
 use lib.Dec.{eqb}
 use lib.ListN.{length, getD}
 use Rattle.format.specs.Seq.{total}
 use Rattle.format.specs.Trie.{onBits}
-use Rattle.format.specs.Page.{levelsIn, nodeCount, numberAt, pairsAt}
+use Rattle.format.specs.Page.{firstSubtries, levelsIn, nodeCount, numberAt, pairsAt}
 use Rattle.format.specs.Image.{bands, pageCount, pagesBefore}
-use Rattle.format.specs.Question.{Question, firstNo, noRoom, questionsFrom9}
+use Rattle.format.specs.Question.{Question, firstNo, noRoom, oneTo, questionsFrom9}
 use Rattle.checker.specs.declared.page.Shape.{Shape}
 use Rattle.header.specs.Refusal.{refusalOf}
+
+-- how many roots a page has whose first root is t, where next is the first after it; 0 where they are not 1 to 60, as 9 asks
+unfoldable pub rootsFrom : ℕ → ℕ → ℕ
+rootsFrom t next = cond (oneTo 60 (next - t)) (next - t) 0
+
+-- the nodes of the first subtrie of a page of r roots
+abbrev pub firstNodes : ℕ → List ℕ → ℕ
+firstNodes r pairs = nodeCount 1 (firstSubtries 1 (levelsIn 4 r pairs))
 
 -- 9 to 12 of the page at a place, of r roots, where the page before has so many nodes
 unfoldable pub questionsAfter : List ℕ → ℕ → ℕ → ℕ → List Question

@@ -19,7 +19,7 @@ ghost use Rattle.header.specs.Refusal.{refusalOf};
 ghost use Rattle.checker.specs.Paged.{Sized, BandAt};
 
 // The first root after page `i` of a band with so many pages and roots, whose first page is page `first` of the image.
-fn next_root(image: &[u8], first: usize, i: usize, pages: usize, roots: usize) -> Root
+pub fn next_root(image: &[u8], first: usize, i: usize, pages: usize, roots: usize) -> Root
     requires { ⌜ (i < pages) × (64 * (first + pages) ≤ length (now image)) ⌝ }
     ensures { λ r. ⌜ r .0 ≡ cond (ltb (i + 1) pages) (numberAt (now (image .entry)) (64 * (first + (i + 1)))) roots ⌝ }
 {

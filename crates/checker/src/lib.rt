@@ -1,6 +1,6 @@
 // The checker: questions 1 to 13, with 35, of any bytes.
-mod band;
-mod page;
+pub mod band;
+pub mod page;
 
 use band::bands_refusal;
 use header::header_refusal;

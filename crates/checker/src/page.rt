@@ -2,11 +2,14 @@
 use format::OutLink;
 use format::Root;
 use header::number;
+use nodes::on_bits_before;
 ghost use mathlib.Core.Path.{_≡_};
 ghost use Prim.Native.Nat.{_+_, _-_, _≤_};
 ghost use lib.ListN.{length};
 ghost use Rattle.format.specs.Page.{pairsAt};
-ghost use Rattle.checker.specs.Paged.{questionsAfter, questionsAt, Asked};
+ghost use Rattle.format.specs.Question.{nodeQuestions};
+ghost use Rattle.nodes.specs.Words.{Gathered, pairsIn};
+ghost use Rattle.checker.specs.Paged.{rootsFrom, firstNodes, questionsAfter, questionsAt, Asked};
 
 // What the questions of a page find: the number of the first that gets a no, 0 where none does, and then the page's nodes and out-links.
 pub struct Shape {
@@ -25,43 +28,77 @@ fn refused(refusal: u8) -> Shape
     }
 }
 
+// Question 9 of a page whose first root is `t`, where `next` is the first after it: how many roots it has, 0 where they are not 1 to 60.
+pub fn roots_from(t: Root, next: Root) -> usize
+    ensures { λ r. ⌜ r ≡ rootsFrom (t .0) (next .0) ⌝ }
+{
+    if next.0 <= t.0 {
+        return 0;
+    }
+    let roots = next.0 - t.0;
+    if 60 < roots {
+        return 0;
+    }
+    roots
+}
+
+// Questions 10 and 11 of a page's words, with so many roots; 9 got a yes.
+pub fn check_nodes<'a>(word: &'a [u64; 9], before: &'a [u16; 9], roots: usize) -> Shape
+    requires { ⌜ (Gathered (now word) (now before)) × (1 ≤ roots) × (roots ≤ 60) ⌝ }
+    ensures { λ r. ⌜ Asked (nodeQuestions roots (pairsIn (now (word .entry)))) (pairsIn (now (word .entry))) roots r ⌝ }
+{
+    let third = roots + on_bits_before(word, before, roots);
+    let fourth = roots + on_bits_before(word, before, third);
+    if 240 < fourth {
+        return refused(10);
+    }
+    let fourth_on = on_bits_before(word, before, fourth);
+    let end = roots + fourth_on;
+    if 240 < end {
+        return refused(10);
+    }
+    if !nodes::none_empty(word, end) {
+        return refused(10);
+    }
+    if !nodes::rest_empty(word, before, end) {
+        return refused(11);
+    }
+    Shape {
+        refusal: 0,
+        nodes: end,
+        links: nodes::on_bits(before) - fourth_on,
+    }
+}
+
+// The nodes of the first subtrie of a page of so many roots, from its words.
+fn first_nodes<'a>(word: &'a [u64; 9], before: &'a [u16; 9], roots: usize) -> usize
+    requires { ⌜ (Gathered (now word) (now before)) × (1 ≤ roots) × (roots ≤ 60) ⌝ }
+    ensures { λ r. ⌜ (r ≡ firstNodes roots (pairsIn (now (word .entry)))) × (r ≤ 15) ⌝ }
+{
+    let second_on = on_bits_before(word, before, roots);
+    let third = roots + second_on;
+    let third_on = on_bits_before(word, before, third);
+    let first2 = on_bits_before(word, before, 1);
+    let first3 = on_bits_before(word, before, roots + first2) - second_on;
+    let first4 = on_bits_before(word, before, third + first3) - third_on;
+    1 + first2 + first3 + first4
+}
+
 // Questions 10 to 12 of the page at `at` with so many roots, after a page of `previous` nodes; 9 got a yes.
 fn check_shape(image: &[u8], at: usize, roots: usize, previous: usize) -> Shape
     requires { ⌜ (at + 64 ≤ length (now image)) × (1 ≤ roots) × (roots ≤ 60) × (previous ≤ 241) ⌝ }
     ensures { λ r. ⌜ Asked (questionsAfter (now (image .entry)) at roots previous) (pairsAt (now (image .entry)) at) roots r ⌝ }
 {
     let words = nodes::gather(image, at);
-    let second_on = nodes::on_bits_before(&words.word, &words.before, roots);
-    let third = roots + second_on;
-    let third_on = nodes::on_bits_before(&words.word, &words.before, third);
-    let fourth = roots + third_on;
-    if 240 < fourth {
-        return refused(10);
+    let found = check_nodes(&words.word, &words.before, roots);
+    if found.refusal != 0 {
+        return found;
     }
-    let fourth_on = nodes::on_bits_before(&words.word, &words.before, fourth);
-    let end = roots + fourth_on;
-    if 240 < end {
-        return refused(10);
-    }
-    if !nodes::none_empty(&words.word, end) {
-        return refused(10);
-    }
-    if !nodes::rest_empty(&words.word, &words.before, end) {
-        return refused(11);
-    }
-    let found = Shape {
-        refusal: 0,
-        nodes: end,
-        links: nodes::on_bits(&words.before) - fourth_on,
-    };
     // The smallest subtrie has four nodes: after so full a page none can fit.
     if 236 < previous {
         return found;
     }
-    let first2 = nodes::on_bits_before(&words.word, &words.before, 1);
-    let first3 = nodes::on_bits_before(&words.word, &words.before, roots + first2) - second_on;
-    let first4 = nodes::on_bits_before(&words.word, &words.before, third + first3) - third_on;
-    if 1 + first2 + first3 + first4 + previous <= 240 {
+    if first_nodes(&words.word, &words.before, roots) + previous <= 240 {
         return refused(12);
     }
     found
@@ -86,11 +123,8 @@ pub(crate) fn check_page(
     if number(image, at + 2) != b.0 {
         return refused(8);
     }
-    if next.0 <= t.0 {
-        return refused(9);
-    }
-    let roots = next.0 - t.0;
-    if 60 < roots {
+    let roots = roots_from(t, next);
+    if roots == 0 {
         return refused(9);
     }
     check_shape(image, at, roots, previous)

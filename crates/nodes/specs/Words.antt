@@ -1,13 +1,15 @@
 -- A page's nodes gathered into words, and what is counted over them.
 -- Assumes nothing.
+use mathlib.Core.Path.{_≡_}
 use mathlib.Core.Bool.{Bool, true, _&&_, cond}
 use mathlib.Core.List.{List, [], _∷_, map}
-use Prim.Native.Nat.{ℕ, _+_, _-_, _*_, _/_, _%_, _^_}
+use Prim.Native.Nat.{ℕ, _+_, _-_, _*_, _/_, _%_, _^_, _≤_}
 use lib.Bits.{bitAnd, bitOr}
 use lib.Count.{ones}
 use lib.Dec.{eqb, ltb}
-use lib.ListN.{getD}
-use Rattle.format.specs.Seq.{numbersFrom}
+use lib.ListN.{length, getD}
+use Rattle.format.specs.Seq.{All, numbersFrom, upTo}
+use Rattle.format.specs.Page.{Byte}
 use Rattle.nodes.specs.declared.Words.{Words}
 
 -- the four bytes, and the eight bytes, from i on as one number, the first the highest
@@ -54,6 +56,19 @@ restEmpty word before n =
 -- node n
 unfoldable pub nodeIn : List ℕ → ℕ → ℕ
 nodeIn word n = getD word ((n + 16) / 32) 0 / 2 ^ (62 - 2 * ((n + 16) % 32)) % 4
+
+-- the 240 pairs of a page's words
+unfoldable pub pairsIn : List ℕ → List ℕ
+pairsIn word = map (nodeIn word) (upTo 240)
+
+-- words that were gathered from a page of some bytes, with the on bits before each
+pub record Gathered (word before : List ℕ) : Type 0 where
+  pub bytes : List ℕ
+  pub at : ℕ
+  pub small : All Byte bytes
+  pub fits : at + 64 ≤ length bytes
+  pub word-is : word ≡ wordsIn bytes at
+  pub before-is : before ≡ countsBefore 0 (wordsIn bytes at)
 
 -- the low bit of each node of a word, and of each that is not 00
 abbrev pub lowBits : ℕ
