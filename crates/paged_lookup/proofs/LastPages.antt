@@ -1,0 +1,106 @@
+-- The page that a root's number leads to, on every byte sequence where 27 gets a yes.
+-- Assumes nothing.
+use mathlib.Core.Path.{_≡_, refl, sym, ap, _∙_}
+use mathlib.Core.Bool.{Bool, true, false, cond, not}
+use mathlib.Core.List.{List}
+use Prim.Native.Nat.{ℕ, zero, suc, _+_, _≤_, _<_}
+use native.Mathlib.Omega.{arith}
+use native.Mathlib.Decide.{decLe, decLt, ℕ-discrete}
+use lib.Dec.{leb, ltb}
+use borrow.Author.Tests.{le-leb, lt-ltb, le-ltb, leb-true, leb-false}
+use Rattle.format.specs.Seq.{every, lastBelow, upTo}
+use Rattle.format.specs.Image.{nextT, pageCount, pageT, pageWith, rootCount}
+use Rattle.format.proofs.Lists.{all-every, all-upTo, every-all, upTo-all}
+use Rattle.format.proofs.Checked.{cond-yes, cond-no}
+use Rattle.paged_lookup.specs.Paged.{hasPage}
+
+-- ---- the last number that passes a test
+
+last-cases : (n : ℕ) (f : ℕ → Bool) (P : ℕ → Type 0) → (f n ≡ true → P n) → (f n ≡ false → P (lastBelow n f)) → P (lastBelow (suc n) f)
+unfolding lastBelow
+last-cases n f P here there = go (f n) here there
+  where
+    go : (t : Bool) → (t ≡ true → P n) → (t ≡ false → P (lastBelow n f)) → P (cond t n (lastBelow n f))
+    go true u v = u refl
+    go false u v = v refl
+
+pub last-within : (n : ℕ) (f : ℕ → Bool) → 1 ≤ n → lastBelow n f < n
+unfolding lastBelow
+last-within zero f h = absurd (omega arith)
+last-within (suc zero) f h = last-cases 0 f (λ k. k < 1) (λ e. omega arith) (λ e. omega arith)
+last-within (suc (suc n)) f h = last-cases (suc n) f (λ k. k < suc (suc n)) (λ e. omega arith) (λ e. omega (arith, last-within (suc n) f (omega arith)))
+
+pub last-le : (n : ℕ) (f : ℕ → Bool) → lastBelow n f ≤ n
+unfolding lastBelow
+last-le zero f = omega arith
+last-le (suc n) f = omega (arith, last-within (suc n) f (omega arith))
+
+-- where one passes, the last passes
+pub last-passes : (n : ℕ) (f : ℕ → Bool) (j : ℕ) → j < n → f j ≡ true → f (lastBelow n f) ≡ true
+last-passes zero f j h e = absurd (omega arith)
+last-passes (suc n) f j h e =
+    last-cases n f (λ k. f k ≡ true) (λ p. p)
+    (λ q. elim (ℕ-discrete j n) [
+      | yes s ↦ absurd (let z : true ≡ false = sym e ∙ ap f s ∙ q in let w : _≡_ {A = ℕ} 0 1 = cc in omega arith)
+      | no s ↦ last-passes n f j (omega arith) e
+    ])
+
+-- none after it passes
+pub last-after : (n : ℕ) (f : ℕ → Bool) (j : ℕ) → j < n → lastBelow n f < j → f j ≡ false
+last-after zero f j h k = absurd (omega arith)
+last-after (suc n) f j h k =
+    last-cases n f (λ m. m < j → f j ≡ false) (λ e lt. absurd (omega arith))
+    (λ e lt. elim (ℕ-discrete j n) [ yes s ↦ ap f s ∙ e | no s ↦ last-after n f j (omega arith) lt ]) k
+
+-- ---- on every byte sequence
+
+-- page i of band b is the last whose T is at or below a root's number
+pub record LastAt (img : List ℕ) (b root i : ℕ) : Type 0 where
+  pub in-band : i < pageCount img b
+  pub at : pageT img b i ≤ root
+  pub after : (j : ℕ) → i < j → j < pageCount img b → root < pageT img b j
+
+module _ (img : List ℕ) (b root : ℕ) where
+  -- 27 gets a yes where a page has such a T
+  pub page-there : (i : ℕ) → i < pageCount img b → pageT img b i ≤ root → hasPage img b root ≡ true
+  unfolding hasPage
+  page-there i h k = go (every (λ j. ltb root (pageT img b j)) (upTo (pageCount img b))) refl
+    where
+      go : (t : Bool) → every (λ j. ltb root (pageT img b j)) (upTo (pageCount img b)) ≡ t → not t ≡ true
+      go false e = refl
+      go true e =
+          let l : ltb root (pageT img b i) ≡ true = upTo-all (λ j. ltb root (pageT img b j) ≡ true) (pageCount img b) (every-all (λ j. ltb root (pageT img b j)) (upTo (pageCount img b)) e) i h in
+          absurd (let w : true ≡ false = sym l ∙ le-ltb root (pageT img b i) k in let z : _≡_ {A = ℕ} 0 1 = cc in omega arith)
+
+  -- and then the page taken is the last such page
+  pub last-page : hasPage img b root ≡ true → LastAt img b root (pageWith img b root)
+  unfolding hasPage pageWith
+  last-page e =
+      let f : ℕ → Bool = λ i. leb (pageT img b i) root in
+      let none : ((j : ℕ) → j < pageCount img b → root < pageT img b j) → ⊥ =
+      λ g. let all : every (λ j. ltb root (pageT img b j)) (upTo (pageCount img b)) ≡ true = all-every (λ j. ltb root (pageT img b j)) (upTo (pageCount img b)) (all-upTo (λ j. ltb root (pageT img b j) ≡ true) (pageCount img b) (λ j h. lt-ltb root (pageT img b j) (g j h))) in
+      let z : false ≡ true = sym (ap not all) ∙ e in
+      let w : _≡_ {A = ℕ} 0 1 = cc in
+      omega arith in
+      let some : 1 ≤ pageCount img b = elim (decLe 1 (pageCount img b)) [ yes h ↦ h | no h ↦ absurd (none (λ j k. absurd (omega arith))) ] in
+      let within : lastBelow (pageCount img b) f < pageCount img b = last-within (pageCount img b) f some in
+      record {
+        in-band = within;
+        at = elim (decLe (pageT img b (lastBelow (pageCount img b) f)) root) [
+          | yes h ↦ h
+          | no h ↦ absurd (none (λ j k. elim (decLe (pageT img b j) root) [
+            | yes u ↦ absurd (omega (arith, leb-true (pageT img b (lastBelow (pageCount img b) f)) root (last-passes (pageCount img b) f j k (le-leb (pageT img b j) root u))))
+            | no u ↦ omega arith
+          ]))
+        ];
+        after = λ j k h. leb-false (pageT img b j) root (last-after (pageCount img b) f j h k);
+      }
+
+  -- so the number is below the next T, and the root is one of the page's
+  pub root-before : (i : ℕ) → LastAt img b root i → root < rootCount img b → root < nextT img b i
+  unfolding nextT
+  root-before i l h =
+      elim (decLt (i + 1) (pageCount img b)) [
+        | yes k ↦ rw (cond-yes (ltb (i + 1) (pageCount img b)) (pageT img b (i + 1)) (rootCount img b) (lt-ltb (i + 1) (pageCount img b) k)) (l .after (i + 1) (omega arith) k)
+        | no k ↦ rw (cond-no (ltb (i + 1) (pageCount img b)) (pageT img b (i + 1)) (rootCount img b) (le-ltb (i + 1) (pageCount img b) (omega arith))) h
+      ]

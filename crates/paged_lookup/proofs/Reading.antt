@@ -1,0 +1,215 @@
+-- What the eight-page lookup reads: bytes that agree in length, header, T's and the pages of its way have the same outcome.
+-- Assumes nothing.
+use mathlib.Core.Path.{_≡_, refl, sym, ap, ap₂, _∙_, subst}
+use mathlib.Core.Bool.{Bool, true, false, not, cond}
+use mathlib.Core.Option.{Option, none, some}
+use mathlib.Core.List.{List, [], _∷_, _++_, flatMap}
+use Prim.Native.Nat.{ℕ, zero, suc, _+_, _-_, _*_, _≤_, _<_}
+use native.Mathlib.Omega.{arith}
+use native.Mathlib.Decide.{ℕ-discrete, decLt}
+use lib.Dec.{eqb, leb, ltb}
+use borrow.Author.Tests.{eq-eqb, ne-eqb, le-ltb}
+use lib.ListN.{length, getD, take, drop}
+use lib.Seq.{getD-take, getD-drop, drop-drop}
+use Rattle.format.specs.Seq.{every, lastBelow, numbersFrom, upTo}
+use Rattle.format.specs.Key.{keyOf}
+use Rattle.format.specs.Page.{levelsIn, numberAt, pairsAt, pairsOf}
+use Rattle.format.specs.Image.{bands, nextT, pageB, pageCount, pageLevels, pageNumber, pagePairs, pageRoots, pageT, pageWith, rootCount}
+use Rattle.format.specs.Question.{Outcome, andThen, firstNo, headerQuestions, isZero, nodeQuestions, outcome, refused, returns, settle}
+use Rattle.format.specs.Answer.{LookupAnswer, absent}
+use Rattle.format.proofs.Lists.{all-upTo, drop-take}
+use Rattle.format.proofs.Checked.{cond-no, cond-yes}
+use Rattle.paged_lookup.specs.Paged.{Way, out, off, follow, hasPage, leaving, linked, pagedAnswer, pagedLookup, rootQuestions, through, walk, wayFrom}
+use Rattle.paged_lookup.specs.EightPages.{Agree, Reads, bytesOfPage}
+use Rattle.paged_lookup.proofs.LastPages.{last-within}
+use Rattle.paged_lookup.proofs.SameHeader.{every-same, keys-same, pages-same, roots-same, due-same, page-number-same, header-same}
+use Rattle.paged_lookup.proofs.Bands.{no-27}
+
+-- the last that passes a test
+last-same : (f g : ℕ → Bool) (n : ℕ) → ((i : ℕ) → i < n → f i ≡ g i) → lastBelow n f ≡ lastBelow n g
+unfolding lastBelow
+last-same f g zero h = refl
+last-same f g (suc n) h = ap₂ (λ (t : Bool) (m : ℕ). cond t n m) (h n (omega arith)) (last-same f g n (λ i k. h i (omega arith)))
+
+-- ---- a page
+
+-- the same 64 bytes at a place: the same B and pairs
+module _ (x y : List ℕ) (p : ℕ) (e : take 64 (drop p y) ≡ take 64 (drop p x)) where
+  at-same : (i : ℕ) → i < 64 → getD y (p + i) 0 ≡ getD x (p + i) 0
+  at-same i h =
+      sym (getD-take 64 (drop p y) i 0 h ∙ getD-drop p y i 0) ∙ ap (λ (l : List ℕ). getD l i 0) e ∙ getD-take 64 (drop p x) i 0 h ∙ getD-drop p x i 0
+
+  B-same : numberAt y (p + 2) ≡ numberAt x (p + 2)
+  unfolding numberAt
+  B-same =
+      let n : p + 3 ≡ p + 2 + 1 = omega arith in
+      ap₂ (λ (a b : ℕ). 256 * a + b) (at-same 2 (omega arith)) (ap (λ (i : ℕ). getD y i 0) (sym n) ∙ at-same 3 (omega arith) ∙ ap (λ (i : ℕ). getD x i 0) n)
+
+  pairs-same : pairsAt y p ≡ pairsAt x p
+  pairs-same = ap (flatMap pairsOf) (part y ∙ ap (λ (l : List ℕ). drop 4 l) e ∙ sym (part x))
+    where
+      part : (l : List ℕ) → take 60 (drop (p + 4) l) ≡ drop 4 (take 64 (drop p l))
+      part l = ap (take 60) (sym (drop-drop 4 p l)) ∙ sym (drop-take 4 64 (drop p l))
+
+-- ---- a band
+
+module _ {x y : List ℕ} {page : ℕ → ℕ} (a : Agree x y page) (key b : ℕ) (lo : 1 ≤ b) (hi : b ≤ 8) where
+  count-is : pageCount y b ≡ pageCount x b
+  count-is = pages-same x y (a .header-is) b hi
+
+  -- T is asked of the band's pages alone
+  over-pages : (f : ℕ → ℕ → Bool) → every (λ i. f (pageT y b i) i) (upTo (pageCount y b)) ≡ every (λ i. f (pageT x b i) i) (upTo (pageCount x b))
+  over-pages f =
+      ap (λ (n : ℕ). every (λ i. f (pageT y b i) i) (upTo n)) count-is
+      ∙ every-same (λ i. f (pageT y b i) i) (λ i. f (pageT x b i) i) (upTo (pageCount x b))
+      (all-upTo (λ i. f (pageT y b i) i ≡ f (pageT x b i) i) (pageCount x b) (λ i h. ap (λ (t : ℕ). f t i) (a .T-is b i lo hi h)))
+
+  has-same : (root : ℕ) → hasPage y b root ≡ hasPage x b root
+  unfolding hasPage
+  has-same root = ap not (over-pages (λ t i. ltb root t))
+
+  with-same : (root : ℕ) → pageWith y b root ≡ pageWith x b root
+  unfolding pageWith
+  with-same root =
+      ap (λ (n : ℕ). lastBelow n (λ i. leb (pageT y b i) root)) count-is
+      ∙ last-same (λ i. leb (pageT y b i) root) (λ i. leb (pageT x b i) root) (pageCount x b) (λ i h. ap (λ (t : ℕ). leb t root) (a .T-is b i lo hi h))
+
+  module _ (i : ℕ) (in-band : i < pageCount x b) where
+    roots-are : pageRoots y b i ≡ pageRoots x b i
+    unfolding pageRoots nextT
+    roots-are = ap₂ _-_ next (a .T-is b i lo hi in-band)
+      where
+        next : cond (ltb (i + 1) (pageCount y b)) (pageT y b (i + 1)) (rootCount y b) ≡ cond (ltb (i + 1) (pageCount x b)) (pageT x b (i + 1)) (rootCount x b)
+        next =
+            ap₂ (λ (n r : ℕ). cond (ltb (i + 1) n) (pageT y b (i + 1)) r) count-is (roots-same x y (a .header-is) b hi)
+            ∙ elim (decLt (i + 1) (pageCount x b)) [
+              | yes h ↦ ap (λ (t : ℕ). cond (ltb (i + 1) (pageCount x b)) t (rootCount x b)) (a .T-is b (i + 1) lo hi h)
+              | no h ↦ cond-no (ltb (i + 1) (pageCount x b)) _ _ (le-ltb (i + 1) (pageCount x b) (omega arith)) ∙ sym (cond-no (ltb (i + 1) (pageCount x b)) _ _ (le-ltb (i + 1) (pageCount x b) (omega arith)))
+            ]
+
+    module _ (e : bytesOfPage y b i ≡ bytesOfPage x b i) where
+      place : 64 * pageNumber y b i ≡ 64 * pageNumber x b i
+      place = ap (64 *_) (page-number-same x y (a .header-is) b i hi)
+
+      bytes-are : take 64 (drop (64 * pageNumber x b i) y) ≡ take 64 (drop (64 * pageNumber x b i) x)
+      unfolding bytesOfPage
+      bytes-are = ap (λ (n : ℕ). take 64 (drop n y)) (sym place) ∙ e
+
+      B-is : pageB y b i ≡ pageB x b i
+      unfolding pageB
+      B-is = ap (λ (n : ℕ). numberAt y (n + 2)) place ∙ B-same x y (64 * pageNumber x b i) bytes-are
+
+      pairs-are : pagePairs y b i ≡ pagePairs x b i
+      unfolding pagePairs
+      pairs-are = ap (pairsAt y) place ∙ pairs-same x y (64 * pageNumber x b i) bytes-are
+
+  -- 28
+  leaving-same : (w : Way) → leaving y b w ≡ leaving x b w
+  unfolding leaving
+  leaving-same (out n) = ap (λ (d : ℕ). settle ((28, ltb n d) ∷ []) (out n)) (due-same x y (a .header-is) b lo hi)
+  leaving-same off = refl
+
+  onward-same : (o : Outcome Way) → andThen o (leaving y b) ≡ andThen o (leaving x b)
+  unfolding andThen
+  onward-same (refused n) = refl
+  onward-same (returns w) = leaving-same w
+
+  -- the questions and the way of a root, where its page agrees
+  through-same : (root : ℕ) → bytesOfPage y b (pageWith x b root) ≡ bytesOfPage x b (pageWith x b root) → through y key b root ≡ through x key b root
+  through-same root e =
+      elim (ℕ-discrete (pageCount x b) 0) [
+        | yes z ↦ let none : hasPage x b root ≡ false = no-pages z in no-27 y key b root (has-same root ∙ none) ∙ sym (no-27 x key b root none)
+        | no z ↦ same (last-within (pageCount x b) (λ i. leb (pageT x b i) root) (omega arith))
+      ]
+    where
+      no-pages : pageCount x b ≡ 0 → hasPage x b root ≡ false
+      no-pages z = unfold hasPage upTo numbersFrom every in ap (λ (n : ℕ). not (every (λ i. ltb root (pageT x b i)) (upTo n))) z
+
+      same : lastBelow (pageCount x b) (λ i. leb (pageT x b i) root) < pageCount x b → through y key b root ≡ through x key b root
+      same within = unfold through rootQuestions wayFrom pageLevels in
+          let j = pageWith x b root in
+          let h : j < pageCount x b = unfold pageWith in within in
+          let w : pageWith y b root ≡ j = with-same root in
+          let r : pageRoots y b j ≡ pageRoots x b j = roots-are j h in
+          let ps : pagePairs y b j ≡ pagePairs x b j = pairs-are j h e in
+          let at : (y : List ℕ) (i : ℕ) → Outcome Way = λ y i. settle ((27, hasPage y b root) ∷ nodeQuestions (pageRoots y b i) (pagePairs y b i)) (linked (pageB y b i) (follow key (4 * (b - 1)) (root - pageT y b i) (levelsIn 4 (pageRoots y b i) (pagePairs y b i)))) in
+          onward-same (at y (pageWith y b root))
+          ∙ ap (λ (i : ℕ). andThen (at y i) (leaving x b)) w
+          ∙ ap₂ (λ (t : Bool) (n : ℕ). andThen (settle ((27, t) ∷ nodeQuestions (pageRoots y b j) (pagePairs y b j)) (linked n (follow key (4 * (b - 1)) (root - pageT y b j) (levelsIn 4 (pageRoots y b j) (pagePairs y b j))))) (leaving x b)) (has-same root) (B-is j h e)
+          ∙ ap₂ (λ (m : ℕ) (l : List ℕ). andThen (settle ((27, hasPage x b root) ∷ nodeQuestions m l) (linked (pageB x b j) (follow key (4 * (b - 1)) (root - pageT y b j) (levelsIn 4 m l)))) (leaving x b)) r ps
+          ∙ ap (λ (t : ℕ). andThen (settle ((27, hasPage x b root) ∷ nodeQuestions (pageRoots x b j) (pagePairs x b j)) (linked (pageB x b j) (follow key (4 * (b - 1)) (root - t) (levelsIn 4 (pageRoots x b j) (pagePairs x b j))))) (leaving x b)) (a .T-is b j lo hi h)
+
+-- ---- the walk
+
+-- what comes of the way out of a band, 0 where there is none
+onward : Outcome Way → (ℕ → ℕ) → ℕ
+onward (refused n) f = 0
+onward (returns (out next)) f = f next
+onward (returns off) f = 0
+
+-- the page of band b, by its index, that the walk with n bands to go takes from a root; 0 where it does not come to the band
+taken : List ℕ → ℕ → ℕ → ℕ → ℕ → ℕ
+taken img key zero root b = 0
+taken img key (suc n) root b = cond (eqb b (8 - n)) (pageWith img b root) (onward (through img key (8 - n) root) (λ next. taken img key n next b))
+
+taken-in : (img : List ℕ) (key n root b : ℕ) → 1 ≤ pageCount img b → taken img key n root b < pageCount img b
+unfolding taken onward
+taken-in img key zero root b h = h
+taken-in img key (suc n) root b h = go (eqb b (8 - n)) (through img key (8 - n) root) (λ next. taken-in img key n next b h)
+  where
+    within : pageWith img b root < pageCount img b
+    within = unfold pageWith in last-within (pageCount img b) (λ i. leb (pageT img b i) root) h
+
+    go : (t : Bool) (o : Outcome Way) → ((next : ℕ) → taken img key n next b < pageCount img b) → cond t (pageWith img b root) (onward o (λ next. taken img key n next b)) < pageCount img b
+    go true o f = within
+    go false (refused k) f = h
+    go false (returns (out next)) f = f next
+    go false (returns off) f = h
+
+module _ {x y : List ℕ} {page : ℕ → ℕ} (a : Agree x y page) (key : ℕ) where
+  walk-same : (n root : ℕ) (pages : List ℕ) → n ≤ 8 → ((b : ℕ) → 9 - n ≤ b → b ≤ 8 → page b ≡ taken x key n root b) → walk y key n root pages ≡ walk x key n root pages
+  unfolding walk andThen taken onward
+  walk-same zero root pages h f = refl
+  walk-same (suc n) root pages h f =
+      let b = 8 - n in
+      let here : page b ≡ pageWith x b root = f b (omega arith) (omega arith) ∙ cond-yes (eqb b (8 - n)) _ _ (eq-eqb b (8 - n) refl) in
+      let e : bytesOfPage y b (pageWith x b root) ≡ bytesOfPage x b (pageWith x b root) = subst (λ (i : ℕ). bytesOfPage y b i ≡ bytesOfPage x b i) here (a .page-is b (omega arith) (omega arith)) in
+      let p : pageNumber y b (pageWith y b root) ≡ pageNumber x b (pageWith x b root) = page-number-same x y (a .header-is) b _ (omega arith) ∙ ap (pageNumber x b) (with-same a key b (omega arith) (omega arith) root) in
+      ap₂ (λ (o : Outcome Way) (q : ℕ). andThen {B = LookupAnswer} o (λ way. elim way [ out next ↦ walk y key n next (pages ++ q ∷ []) | off ↦ returns absent ])) (through-same a key b (omega arith) (omega arith) root e) p
+      ∙ go (through x key b root) refl (λ next s. walk-same n next (pages ++ pageNumber x b (pageWith x b root) ∷ []) (omega arith) (later next s))
+    where
+      later : (next : ℕ) → through x key (8 - n) root ≡ returns (out next) → (b : ℕ) → 9 - n ≤ b → b ≤ 8 → page b ≡ taken x key n next b
+      later next s b lo hi =
+          f b (omega arith) hi
+          ∙ cond-no (eqb b (8 - n)) _ _ (ne-eqb b (8 - n) (λ z. omega arith))
+          ∙ ap (λ o. onward o (λ m. taken x key n m b)) s
+
+      go : (o : Outcome Way) → through x key (8 - n) root ≡ o
+          → ((next : ℕ) → through x key (8 - n) root ≡ returns (out next) → walk y key n next (pages ++ pageNumber x (8 - n) (pageWith x (8 - n) root) ∷ []) ≡ walk x key n next (pages ++ pageNumber x (8 - n) (pageWith x (8 - n) root) ∷ []))
+          → andThen {B = LookupAnswer} o (λ way. elim way [ out next ↦ walk y key n next (pages ++ pageNumber x (8 - n) (pageWith x (8 - n) root) ∷ []) | off ↦ returns absent ])
+          ≡ andThen {B = LookupAnswer} o (λ way. elim way [ out next ↦ walk x key n next (pages ++ pageNumber x (8 - n) (pageWith x (8 - n) root) ∷ []) | off ↦ returns absent ])
+      go (refused k) s rec = refl
+      go (returns (out next)) s rec = rec next s
+      go (returns off) s rec = refl
+
+  answer-same : ((b : ℕ) → 1 ≤ b → b ≤ 8 → page b ≡ taken x key 8 0 b) → pagedAnswer y key ≡ pagedAnswer x key
+  unfolding pagedAnswer
+  answer-same f =
+      ap₂ (λ (k : ℕ) (w : Outcome LookupAnswer). elim (isZero k) [ true ↦ returns absent | false ↦ w ]) (keys-same x y (a .header-is)) (walk-same 8 0 [] (omega arith) (λ b lo hi. f b (omega arith) hi))
+
+-- the same questions, and then the same
+then-same : (o : Option ℕ) (f g : ℕ → Outcome LookupAnswer) (key : ℕ) → f key ≡ g key → andThen (outcome o key) f ≡ andThen (outcome o key) g
+unfolding andThen outcome
+then-same none f g key e = e
+then-same (some n) f g key e = refl
+
+pub reads-little : (x : List ℕ) (holder slot : ℕ) → Reads x holder slot
+unfolding pagedLookup settle
+reads-little x holder slot =
+    let key = keyOf holder slot in
+    record {
+      page = taken x key 8 0;
+      in-band = λ b h. taken-in x key 8 0 b h;
+      enough = λ y a. ap (λ qs. andThen (outcome (firstNo qs) key) (pagedAnswer y)) (header-same x y (a .header-is) (a .length-is))
+          ∙ then-same (firstNo (headerQuestions x)) (pagedAnswer y) (pagedAnswer x) key (answer-same a key (λ b lo hi. refl));
+    }

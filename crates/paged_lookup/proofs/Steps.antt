@@ -1,0 +1,223 @@
+-- A key's way through a page and through a band as the code goes, on every byte sequence whose 1 to 7 get a yes.
+-- Assumes nothing.
+use mathlib.Core.Path.{_≡_, refl, sym, ap, ap₂, _∙_}
+use mathlib.Core.Bool.{Bool, true, false, cond}
+use mathlib.Core.Option.{none}
+use mathlib.Core.List.{List}
+use Prim.Native.Nat.{ℕ, _+_, _-_, _*_, _≤_, _<_}
+use native.Mathlib.Omega.{arith}
+use native.Mathlib.Decide.{decLe}
+use lib.Dec.{leb, ltb}
+use borrow.Author.Tests.{le-leb, lt-leb}
+use lib.ListN.{length}
+use Rattle.format.specs.declared.OutLink.{OutLink}
+use Rattle.format.specs.Page.{levelsIn, numberAt, pairsAt}
+use Rattle.format.specs.Image.{nextT, pageB, pageCount, pageLevels, pageNumber, pagePairs, pageRoots, pageT, pageWith, pagesBefore, rootCount}
+use Rattle.format.specs.Question.{andThen, firstNo, nodeQuestions, oneTo, outLinksDue, outcome, returns, settle}
+use Rattle.format.proofs.Questions.{asked-no}
+use Rattle.format.proofs.Jobs.{settle-no, settle-yes}
+use Rattle.format.proofs.Read.{pages-within}
+use Rattle.format.proofs.Places.{last-below}
+use Rattle.nodes.specs.Words.{pairsIn}
+use Rattle.header.specs.Refusal.{refusalOf}
+use Rattle.header.proofs.Refusals.{none-refused, refused-outcome}
+use Rattle.checker.specs.Paged.{Asked, BandAt}
+use Rattle.checker.specs.declared.page.Shape.{Shape}
+use Rattle.paged_lookup.specs.declared.page.Way.{Way}
+use Rattle.paged_lookup.specs.declared.page.Way.the-variants.{Out, Off, Refused}
+use Rattle.paged_lookup.specs.declared.band.Step.{Step}
+use Rattle.paged_lookup.specs.Paged as paged
+use Rattle.paged_lookup.specs.Paged.{out, off, follow, hasPage, leaving, linked, through, wayFrom}
+use Rattle.paged_lookup.specs.Way.{StepRight, Upto, wayOutcome}
+use Rattle.paged_lookup.proofs.LastPages.{last-page, page-there, root-before}
+use Rattle.paged_lookup.proofs.Bands.{leave-no, leave-yes, no-27, past-27}
+
+-- ---- the last page whose T is at or below a root's number
+
+-- all pages from one on have a larger T
+pub record Later (img : List ℕ) (first pages root upto : ℕ) : Type 0 where
+  pub within : upto ≤ pages
+  pub after : (j : ℕ) → upto ≤ j → j < pages → root < numberAt img (64 * (first + j))
+
+module _ {img : List ℕ} {first pages root : ℕ} where
+  pub later-start : Later img first pages root pages
+  later-start = record { within = omega arith; after = λ j h k. absurd (omega arith) }
+
+  module _ {upto : ℕ} (l : Later img first pages root upto) where
+    pub later-here : 0 < upto → {t : ℕ} → t ≡ numberAt img (64 * (first + (upto - 1))) → t ≤ root → Upto img first pages root upto
+    later-here h e k = record { within = l .within; at = λ u. omega arith; after = l .after }
+
+    pub later-next : 0 < upto → {t : ℕ} → t ≡ numberAt img (64 * (first + (upto - 1))) → root < t → Later img first pages root (upto - 1)
+    later-next h {t} e k =
+        record {
+          within = omega (arith, l .within);
+          after = λ j u v. elim (decLe upto j) [
+            | yes w ↦ l .after j w v
+            | no w ↦ let same : upto - 1 ≡ j = omega arith in omega (arith, ap (λ (n : ℕ). numberAt img (64 * (first + n))) same)
+          ];
+        }
+
+    pub later-end : upto ≤ 0 → Upto img first pages root 0
+    later-end h = record { within = omega arith; at = λ u. absurd (omega arith); after = λ j u v. l .after j (omega arith) v }
+
+-- the page as the code reads it: its index in the band, its number in the image, its T and the next
+pub record PageFound (img : List ℕ) (b root i number t next : ℕ) : Type 0 where
+  pub in-band : i < pageCount img b
+  pub has : hasPage img b root ≡ true
+  pub is : pageWith img b root ≡ i
+  pub number-is : number ≡ pageNumber img b i
+  pub t-is : t ≡ pageT img b i
+  pub next-is : next ≡ nextT img b i
+
+module _ {img : List ℕ} {b first : ℕ} (p : BandAt img b first) {pages : ℕ} (ep : pages ≡ pageCount img b) where
+  pub band-fits : 64 * (first + pages) ≤ length img
+  unfolding pagesBefore
+  band-fits = omega (arith, p .first-is, p .sized .size, pages-within img b (p .lo) (p .hi))
+
+  -- the pages' numbers, and their T
+  number-at : (i : ℕ) → first + i ≡ pageNumber img b i
+  unfolding pageNumber
+  number-at i = ap (_+ i) (p .first-is)
+
+  T-at : (i : ℕ) → numberAt img (64 * (first + i)) ≡ pageT img b i
+  unfolding pageT
+  T-at i = ap (λ (n : ℕ). numberAt img (64 * n)) (number-at i)
+
+  module _ {root upto : ℕ} (u : Upto img first pages root upto) where
+    pub none-found : upto ≡ 0 → hasPage img b root ≡ false
+    none-found z = go (hasPage img b root) refl
+      where
+        go : (t : Bool) → hasPage img b root ≡ t → t ≡ false
+        go false e = refl
+        go true e = let l = last-page img b root e in absurd (omega (arith, l .at, T-at (pageWith img b root), u .after (pageWith img b root) (omega arith) (omega (arith, l .in-band))))
+
+    module _ (some-page : upto ≡ 0 → ⊥) where
+      pub index-in : upto - 1 < pages
+      index-in = omega (arith, u .within)
+
+      T-below : pageT img b (upto - 1) ≤ root
+      T-below = omega (arith, u .at (omega arith), T-at (upto - 1))
+
+      pub found : {number t roots next : ℕ} → number ≡ first + (upto - 1) → t ≡ numberAt img (64 * number) → roots ≡ rootCount img b
+          → next ≡ cond (ltb (upto - 1 + 1) pages) (numberAt img (64 * (first + (upto - 1 + 1)))) roots → PageFound img b root (upto - 1) number t next
+      unfolding nextT pageT pageWith
+      found {number} {t} {roots} {next} e et er en =
+          let here : upto - 1 < pageCount img b = omega (arith, index-in) in
+          let n : number ≡ pageNumber img b (upto - 1) = e ∙ number-at (upto - 1) in
+          record {
+            in-band = here;
+            has = page-there img b root (upto - 1) here T-below;
+            is = last-below (pageCount img b) (λ i. leb (pageT img b i) root) (upto - 1) here (le-leb (pageT img b (upto - 1)) root T-below)
+                (λ j h k. lt-leb (pageT img b j) root (omega (arith, u .after j (omega arith) (omega arith), T-at j)));
+            number-is = n;
+            t-is = et ∙ ap (λ (m : ℕ). numberAt img (64 * m)) n;
+            next-is = en ∙ ap₂ (λ (m x : ℕ). cond (ltb (upto - 1 + 1) m) (numberAt img (64 * (first + (upto - 1 + 1)))) x) ep er
+                ∙ ap (λ (x : ℕ). cond (ltb (upto - 1 + 1) (pageCount img b)) x (rootCount img b)) (T-at (upto - 1 + 1));
+          }
+
+-- ---- in a page
+
+module _ (img : List ℕ) (at roots : ℕ) (word : List ℕ) (same : pairsIn word ≡ pairsAt img at) {shape : Shape} (q : Asked (nodeQuestions roots (pairsIn word)) (pairsIn word) roots shape) where
+  asked : refusalOf (shape .refusal) ≡ firstNo (nodeQuestions roots (pairsAt img at))
+  asked = q .first-no ∙ ap (λ (ps : List ℕ). firstNo (nodeQuestions roots ps)) same
+
+  -- 10 or 11 gets a no
+  pub page-refused : (shape .refusal ≡ 0 → ⊥) → (w : paged.Way) → wayOutcome (Refused (shape .refusal)) ≡ settle (nodeQuestions roots (pairsAt img at)) w
+  unfolding wayOutcome settle
+  page-refused nz w = refused-outcome (shape .refusal) w nz ∙ ap (λ o. outcome o w) asked
+
+  -- they get a yes
+  pub judged-yes : shape .refusal ≡ 0 → firstNo (nodeQuestions roots (pairsIn word)) ≡ none
+  judged-yes z = none-refused (shape .refusal) (nodeQuestions roots (pairsIn word)) (q .first-no) z
+
+  pub page-way : shape .refusal ≡ 0 → (way : Way) {b : ℕ} (key level root : ℕ) → b ≡ numberAt img (at + 2)
+      → wayOutcome way ≡ returns (linked b (follow key level root (levelsIn 4 roots (pairsIn word))))
+      → wayOutcome way ≡ settle (nodeQuestions roots (pairsAt img at)) (linked (numberAt img (at + 2)) (follow key level root (levelsIn 4 roots (pairsAt img at))))
+  page-way z way {b} key level root eb w =
+      w ∙ ap₂ (λ (x : ℕ) (ps : List ℕ). returns (linked x (follow key level root (levelsIn 4 roots ps)))) eb same
+      ∙ sym (settle-yes (nodeQuestions roots (pairsAt img at)) _ (none-refused (shape .refusal) (nodeQuestions roots (pairsAt img at)) asked z))
+
+-- the end of the four bits
+pub way-off : {way : paged.Way} (b : ℕ) → way ≡ off → wayOutcome Off ≡ returns (linked b way)
+unfolding wayOutcome linked
+way-off {way} b e = ap (λ w. returns (linked b w)) (sym e)
+
+pub way-out : {way : paged.Way} (b : ℕ) {n : ℕ} → way ≡ out n → wayOutcome (Out (record { 0 = b + n })) ≡ returns (linked b way)
+unfolding wayOutcome linked
+way-out {way} b e = ap (λ w. returns (linked b w)) (sym e)
+
+-- ---- leaving
+
+module _ (img : List ℕ) (b : ℕ) {way : Way} where
+  pub leave-off : way ≡ Off → wayOutcome Off ≡ andThen (wayOutcome way) (leaving img b)
+  unfolding wayOutcome andThen leaving
+  leave-off e = sym (ap (λ w. andThen (wayOutcome w) (leaving img b)) e)
+
+  pub leave-refused : {n : ℕ} → way ≡ Refused n → wayOutcome (Refused n) ≡ andThen (wayOutcome way) (leaving img b)
+  unfolding wayOutcome andThen
+  leave-refused e = sym (ap (λ w. andThen (wayOutcome w) (leaving img b)) e)
+
+  module _ {link : OutLink} (e : way ≡ Out link) where
+    pub leave-over : outLinksDue img b ≤ link .0 → wayOutcome (Refused 28) ≡ andThen (wayOutcome way) (leaving img b)
+    unfolding wayOutcome andThen
+    leave-over h = sym (ap (λ w. andThen (wayOutcome w) (leaving img b)) e ∙ leave-no img b (link .0) h)
+
+    pub leave-in : link .0 < outLinksDue img b → wayOutcome (Out link) ≡ andThen (wayOutcome way) (leaving img b)
+    unfolding wayOutcome andThen
+    leave-in h = sym (ap (λ w. andThen (wayOutcome w) (leaving img b)) e ∙ leave-yes img b (link .0) h)
+
+-- ---- through a band
+
+module _ {img : List ℕ} {b root i number t next : ℕ} (f : PageFound img b root i number t next) where
+  roots-are : next - t ≡ pageRoots img b (pageWith img b root)
+  unfolding pageRoots
+  roots-are = ap₂ _-_ (f .next-is) (f .t-is) ∙ ap (pageRoots img b) (sym (f .is))
+
+  -- the root is one of the page's
+  pub root-in : root < rootCount img b → (t ≤ root) × (root - t < next - t)
+  root-in u =
+      let l = last-page img b root (f .has) in
+      let before = root-before img b root (pageWith img b root) l u in
+      let low : t ≤ root = omega (arith, f .t-is, ap (pageT img b) (f .is), l .at) in
+      (low, omega (arith, f .next-is, ap (nextT img b) (f .is)))
+
+module _ (img : List ℕ) (key b root : ℕ) (s : Step) where
+  -- a question ends it: no page is promised
+  no-page : {n : ℕ} → s .way ≡ Refused n → {link : OutLink} → s .way ≡ Out link → s .page ≡ pageNumber img b (pageWith img b root)
+  no-page e f = absurd (let z : _≡_ {A = ℕ} 0 1 = cc in omega arith)
+
+  pub step-none : hasPage img b root ≡ false → s .way ≡ Refused 27 → StepRight img key b root s
+  unfolding wayOutcome
+  step-none h e = record { outcome = ap wayOutcome e ∙ sym (no-27 img key b root h); page-is = no-page e }
+
+  module _ {i number t next : ℕ} (f : PageFound img b root i number t next) where
+    -- the page that is taken
+    taken : ℕ
+    taken = pageWith img b root
+
+    -- 9 gets a no
+    pub step-nine : oneTo 60 (next - t) ≡ false → s .way ≡ Refused 9 → StepRight img key b root s
+    unfolding wayOutcome nodeQuestions andThen taken
+    step-nine h e =
+        record {
+          outcome = ap wayOutcome e ∙ sym (past-27 img key b root (f .has)
+              ∙ ap (λ o. andThen o (leaving img b)) (settle-no (nodeQuestions (pageRoots img b taken) (pagePairs img b taken)) (wayFrom img key b root) 9 (asked-no 9 _ _ (ap (oneTo 60) (sym (roots-are f)) ∙ h))));
+          page-is = no-page e;
+        }
+
+    -- its way, judged, and on leaving
+    pub step-left : {roots : ℕ} → roots ≡ next - t → (way : Way)
+        → wayOutcome way ≡ settle (nodeQuestions roots (pairsAt img (64 * number))) (linked (numberAt img (64 * number + 2)) (follow key (4 * (b - 1)) (root - t) (levelsIn 4 roots (pairsAt img (64 * number)))))
+        → wayOutcome (s .way) ≡ andThen (wayOutcome way) (leaving img b) → s .page ≡ number → StepRight img key b root s
+    unfolding taken wayFrom pageB pagePairs pageLevels
+    step-left {roots} er way w l e =
+        let r : roots ≡ pageRoots img b taken = er ∙ roots-are f in
+        let n : 64 * number ≡ 64 * pageNumber img b taken = ap (64 *_) (f .number-is ∙ ap (pageNumber img b) (sym (f .is))) in
+        let x : t ≡ pageT img b taken = f .t-is ∙ ap (pageT img b) (sym (f .is)) in
+        let same : settle (nodeQuestions roots (pairsAt img (64 * number))) (linked (numberAt img (64 * number + 2)) (follow key (4 * (b - 1)) (root - t) (levelsIn 4 roots (pairsAt img (64 * number))))) ≡ settle (nodeQuestions (pageRoots img b taken) (pagePairs img b taken)) (wayFrom img key b root) =
+        ap₂ (λ (m q : ℕ). settle (nodeQuestions q (pairsAt img m)) (linked (numberAt img (m + 2)) (follow key (4 * (b - 1)) (root - t) (levelsIn 4 q (pairsAt img m))))) n r
+        ∙ ap (λ (y : ℕ). settle (nodeQuestions (pageRoots img b taken) (pagePairs img b taken)) (linked (pageB img b taken) (follow key (4 * (b - 1)) (root - y) (pageLevels img b taken)))) x in
+        record {
+          outcome = l ∙ ap (λ o. andThen o (leaving img b)) (w ∙ same) ∙ sym (past-27 img key b root (f .has));
+          page-is = λ _. e ∙ f .number-is ∙ ap (pageNumber img b) (sym (f .is));
+        }

@@ -1,0 +1,17 @@
+-- `paged_lookup::lookup` meets its contract. Assumes nothing.
+use borrow.Author.Needs.{needs}
+use Rattle.paged_lookup.proofs.Walking.{refused-is, lookup-refused, lookup-yes, lookup-done}
+use Rattle.paged_lookup.proofs.lookup.Statement.{statement}
+use Rattle.paged_lookup.proofs.lookup.Tie as tie
+
+returns : tie.Need-returns
+returns c = let n = c .no-pages .ensures in refused-is (lookup-refused _ _ _ (c .before .before .header-refusal .ensures) (c .before .if1 .taken)) (n .0) (n .1)
+
+walk-requires : tie.Need-walk-requires
+walk-requires c κs = let h = c .before .before in lookup-yes _ 0 0 (h .header-refusal .ensures) (c .before .if1 .left)
+
+returns-2 : tie.Need-returns-2
+returns-2 c = let h = c .before .before .before in lookup-done _ _ _ (h .header-refusal .ensures) (c .before .before .if1 .left) (c .before .weave .ensures) _ _ (c .walk .ensures)
+
+pub lookup-spec : {M : Type 1} → statement M
+lookup-spec = tie.close (tie.spec (λ c κs. search needs) (λ c κs. search needs) returns (λ c κs. search needs) walk-requires returns-2)

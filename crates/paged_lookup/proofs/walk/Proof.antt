@@ -1,0 +1,95 @@
+-- `paged_lookup::walk` meets its contract. The loop's invariant: the walk so far. Assumes nothing.
+use mathlib.Core.Path.{sym, ap, _∙_}
+use Prim.Native.Nat.{_-_}
+use native.Mathlib.Omega.{arith}
+use borrow.Author.Needs.{needs}
+use Rattle.nodes.proofs.Numbers.{bytes-of}
+use Rattle.paged_lookup.proofs.Walking.{Walking, absent-is, refused-is, header-yes-of, no-keys-answer, walking-start, walking-band, walking-refused, walking-off, walking-page, walking-next, walking-end}
+use Rattle.paged_lookup.proofs.walk.Statement.{statement}
+use Rattle.paged_lookup.proofs.walk.Tie as tie
+
+abbrev Inv-loop : tie.InvT-loop
+Inv-loop image key pages₀ link₀ first₀ passed₀ pages link first passed = Walking image key pages (link .0) first passed
+
+abbrev μ-loop : tie.MeasureT-loop
+μ-loop image key pages₀ link₀ first₀ passed₀ pages link first passed = 8 - passed
+
+returns : tie.Need-returns Inv-loop μ-loop
+returns c = let n = c .no-pages .ensures in absent-is (no-keys-answer _ _ (sym (c .before .before .key-count .ensures .0) ∙ c .before .if1 .taken)) (n .0) (n .1)
+
+loop-holds : tie.Need-loop-holds Inv-loop μ-loop
+loop-holds c =
+    let k = c .before in
+    let a = k .before .before in
+    walking-start (a .args .key) (bytes-of (a .args .image .now) (λ i. k .before .shared-slice-known .given i .fits)) (a .pre) (λ z. c .if1 .left (k .key-count .ensures .0 ∙ z))
+
+through-requires : tie.Need-through-requires Inv-loop μ-loop
+through-requires c κs =
+    let l = c .before in
+    let s = l .before .loop .inv in
+    (walking-band s (l .loop-test .taken), omega (arith, s .link-in (l .loop-test .taken), ap (λ x. x .0) (c .cross .ensures)))
+
+returns-2 : tie.Need-returns-2 Inv-loop μ-loop
+returns-2 c =
+    let t = c .before .before .before .before in
+    let l = t .before .before in
+    let n = c .no-pages2 .ensures in
+    refused-is (walking-refused (l .before .loop .inv) (l .loop-test .taken) (ap (λ x. x .0) (t .before .cross .ensures)) (t .through .ensures) (c .before .before .way .given .1)) (n .0) (n .1)
+
+returns-3 : tie.Need-returns-3 Inv-loop μ-loop
+returns-3 c =
+    let t = c .before .before .before in
+    let l = t .before .before in
+    let n = c .no-pages3 .ensures in
+    absent-is (walking-off (l .before .loop .inv) (l .loop-test .taken) (ap (λ x. x .0) (t .before .cross .ensures)) (t .through .ensures) (c .before .enum-told .given .1)) (n .0) (n .1)
+
+cast-pages : tie.Need-cast-pages Inv-loop μ-loop
+cast-pages c =
+    let t = c .before .before .before .before in
+    let l = t .before .before in
+    record { fits = walking-page (l .before .loop .inv) (l .loop-test .taken) (ap (λ x. x .0) (t .before .cross .ensures)) (t .through .ensures) (c .before .before .way2 .given .1) }
+
+array-write-pages : tie.Need-array-write-pages Inv-loop μ-loop
+array-write-pages c = c .before .before .before .before .before .before .loop-test .taken
+
+page-count-requires : tie.Need-page-count-requires Inv-loop μ-loop
+page-count-requires c κs = let l = c .before .before .before .before .before .before in (l .before .loop .inv .header .long, omega (arith, l .loop-test .taken))
+
+add-first : tie.Need-add-first Inv-loop μ-loop
+add-first c = let l = c .before .before .before .before .before .before .before in record { fits = omega (arith, l .before .loop .inv .few, l .loop-test .taken, c .page-count .ensures .1) }
+
+loop-again : tie.Need-loop-again Inv-loop μ-loop
+loop-again c =
+    let t = c .before .before .before .before .before in
+    let l = t .before .before in
+    walking-next (l .before .loop .inv) (l .loop-test .taken) (ap (λ x. x .0) (t .before .cross .ensures)) (t .through .ensures) (c .before .before .before .way2 .given .1) (c .page-count .ensures .0) (c .page-count .ensures .1)
+
+pub walk-spec : {M : Type 1} → statement M
+walk-spec =
+    tie.close
+    (tie.spec
+    Inv-loop
+    μ-loop
+    (λ c κs. header-yes-of _ (c .before .pre) .long)
+    (λ c κs. search needs)
+    returns
+    loop-holds
+    (λ c. omega arith)
+    (λ c κs. search needs)
+    through-requires
+    (λ c. search needs)
+    (λ c κs. search needs)
+    returns-2
+    (λ c. search needs)
+    (λ c κs. search needs)
+    returns-3
+    (λ c. search needs)
+    cast-pages
+    (λ c. omega arith)
+    array-write-pages
+    page-count-requires
+    add-first
+    (λ c. omega arith)
+    loop-again
+    (λ c. record { fits = omega (arith, c .before .before .loop .inv .link-small) })
+    (λ c. walking-end (c .before .before .loop .inv) (c .before .loop-test .left)))

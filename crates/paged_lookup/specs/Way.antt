@@ -1,0 +1,43 @@
+-- What the inner functions find: the page of a root, a key's way in it, and through a band.
+-- Assumes nothing.
+use mathlib.Core.Path.{_≡_}
+use mathlib.Core.Option.{none}
+use mathlib.Core.List.{List}
+use Prim.Native.Nat.{ℕ, _+_, _-_, _*_, _≤_, _<_}
+use Rattle.format.specs.declared.OutLink.{OutLink}
+use Rattle.format.specs.Page.{levelsIn, nodeCount, numberAt}
+use Rattle.format.specs.Image.{pageNumber, pageWith}
+use Rattle.format.specs.Question.{Outcome, firstNo, headerQuestions, nodeQuestions, refused, returns}
+use Rattle.nodes.specs.Words.{Gathered, pairsIn}
+use Rattle.paged_lookup.specs.declared.page.Way.{Way}
+use Rattle.paged_lookup.specs.declared.page.Way.the-variants.{Out, Off, Refused}
+use Rattle.paged_lookup.specs.declared.page.Judged.{Judged}
+use Rattle.paged_lookup.specs.declared.band.Step.{Step}
+use Rattle.paged_lookup.specs.Paged as paged
+
+-- 1 to 7 get a yes
+abbrev pub HeaderYes : List ℕ → Type 0
+HeaderYes img = firstNo (headerQuestions img) ≡ none
+
+-- a key's way, or a refusal
+unfoldable pub wayOutcome : Way → Outcome paged.Way
+wayOutcome (Out link) = returns (paged.Way.out (link .0))
+wayOutcome Off = returns paged.Way.off
+wayOutcome (Refused n) = refused n
+
+-- a page's words, which 9 to 11 give a yes, and its numbers of roots and nodes
+pub record JudgedIn (word before : List ℕ) (page : Judged) : Type 0 where
+  pub gathered : Gathered word before
+  pub asked : firstNo (nodeQuestions (page .roots) (pairsIn word)) ≡ none
+  pub nodes-are : page .nodes ≡ nodeCount (page .roots) (levelsIn 4 (page .roots) (pairsIn word))
+
+-- so many pages there are up to and with the last whose T is at or below a root's number
+pub record Upto (img : List ℕ) (first pages root upto : ℕ) : Type 0 where
+  pub within : upto ≤ pages
+  pub at : 1 ≤ upto → numberAt img (64 * (first + (upto - 1))) ≤ root
+  pub after : (j : ℕ) → upto ≤ j → j < pages → root < numberAt img (64 * (first + j))
+
+-- through band b from a root: where it is left, the page is the root's
+pub record StepRight (img : List ℕ) (key b root : ℕ) (s : Step) : Type 0 where
+  pub outcome : wayOutcome (s .way) ≡ paged.through img key b root
+  pub page-is : {link : OutLink} → s .way ≡ Way.Out link → s .page ≡ pageNumber img b (pageWith img b root)

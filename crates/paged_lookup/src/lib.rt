@@ -1,0 +1,84 @@
+// The eight-page lookup: it asks 1 to 7, then reads one page in each band.
+mod band;
+mod page;
+
+ghost use mathlib.Core.Path.{_≡_};
+ghost use lib.ListN.{replicate};
+ghost use Rattle.paged_lookup.specs.Paged.{pagedAnswer, pagedLookup};
+ghost use Rattle.paged_lookup.specs.Outcomes.{lookupOutcome, NoPages};
+ghost use Rattle.paged_lookup.specs.Way.{HeaderYes};
+use band::through;
+use format::OutLink;
+use format::cross;
+use header::header_refusal;
+use header::key_count;
+use header::page_count;
+use page::Way;
+use zorder::weave;
+
+// What lookup of a holder and a slot finds.
+pub enum Presence {
+    // The rank; the page numbers stand beside.
+    Listed(u32),
+    Absent,
+    // The number of the question that got a no.
+    Refused(u8),
+}
+
+// What lookup finds, and the eight page numbers on the key's path: all 0 unless the key is listed.
+pub struct Found {
+    pub answer: Presence,
+    pub pages: [u32; 8],
+}
+
+// An answer without page numbers.
+pub fn no_pages(answer: Presence) -> Found
+    ensures { λ r. ⌜ (r .answer ≡ answer) × (r .pages ≡ replicate 8 0) ⌝ }
+{
+    Found {
+        answer,
+        pages: [0u32; 8],
+    }
+}
+
+// The walk of a key from band to band, in an image whose 1 to 7 get a yes.
+fn walk(image: &[u8], key: u32) -> Found
+    requires { ⌜ HeaderYes (now image) ⌝ }
+    ensures { λ r. ⌜ (lookupOutcome (r .answer) (r .pages) ≡ pagedAnswer (now (image .entry)) key) × (NoPages (r .answer) (r .pages)) ⌝ }
+{
+    if key_count(image) == 0 {
+        return no_pages(Presence::Absent);
+    }
+    let mut pages = [0u32; 8];
+    let mut link = OutLink(0);
+    let mut first = 1;
+    let mut passed = 0;
+    while passed < 8 {
+        let band = passed + 1;
+        let step = through(image, band, first, cross(link), key);
+        let way = step.way;
+        match way {
+            Way::Refused(n) => return no_pages(Presence::Refused(n)),
+            Way::Off => return no_pages(Presence::Absent),
+            Way::Out(next) => link = next,
+        }
+        pages[passed] = step.page as u32;
+        first += page_count(image, band);
+        passed = band;
+    }
+    Found {
+        answer: Presence::Listed(link.0 as u32),
+        pages,
+    }
+}
+
+// Looks a holder and a slot up in one page a band: the rank and the eight page numbers, or absent.
+pub fn lookup(image: &[u8], holder: u16, slot: u16) -> Found
+    ensures { λ r. ⌜ (lookupOutcome (r .answer) (r .pages) ≡ pagedLookup (now (image .entry)) holder slot) × (NoPages (r .answer) (r .pages)) ⌝ }
+{
+    let refusal = header_refusal(image);
+    if refusal != 0 {
+        return no_pages(Presence::Refused(refusal));
+    }
+    walk(image, weave(holder, slot))
+}

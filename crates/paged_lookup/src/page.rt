@@ -1,0 +1,118 @@
+// The way of a key in one page.
+ghost use mathlib.Core.Path.{_≡_};
+ghost use Prim.Native.Nat.{_+_, _≤_, _<_};
+ghost use lib.ListN.{length};
+ghost use Rattle.format.specs.Key.{keyBit};
+ghost use Rattle.format.specs.Trie.{bit};
+ghost use Rattle.format.specs.Page.{levelsIn, numberAt, pairsAt};
+ghost use Rattle.format.specs.Question.{nodeQuestions, returns, settle};
+ghost use Rattle.nodes.specs.Words.{pairsIn};
+ghost use Rattle.pages.specs.Page.{childIn};
+ghost use Rattle.paged_lookup.specs.Paged;
+ghost use Rattle.paged_lookup.specs.Way.{wayOutcome, JudgedIn};
+use checker::page::check_nodes;
+use format::OutLink;
+use header::number;
+use nodes::gather;
+use nodes::node_at;
+use nodes::on_bits_before;
+
+// Where a key's bits lead: to an out-link of the band, or to an off bit; or the number of the question that got a no.
+pub enum Way {
+    Out(OutLink),
+    Off,
+    Refused(u8),
+}
+
+// A page that 9 to 11 gave a yes: how many roots and nodes it has, and B, its first out-link.
+pub struct Judged {
+    pub roots: usize,
+    pub nodes: usize,
+    pub b: OutLink,
+}
+
+// The bit of a key at a level counted from 0.
+fn key_bit(key: u32, level: usize) -> usize
+    requires { ⌜ level < 32 ⌝ }
+    ensures { λ r. ⌜ (r ≡ keyBit key level) × (r ≤ 1) ⌝ }
+{
+    ((key >> (31 - level)) % 2) as usize
+}
+
+// A bit of a node: the first for side 0, the second for side 1.
+fn bit_of(node: u64, side: usize) -> u64
+    ensures { λ r. ⌜ r ≡ bit side node ⌝ }
+{
+    if 0 < side {
+        return node % 2;
+    }
+    node / 2
+}
+
+// The place of the child that the bit of this side of the node at a place leads to: the roots, and the on bits before that bit.
+fn child_place<'a>(
+    word: &'a [u64; 9],
+    before: &'a [u16; 9],
+    roots: usize,
+    place: usize,
+    side: usize,
+) -> usize
+    requires { ⌜ (place < 240) × (roots ≤ 60) ⌝ }
+    ensures { λ r. ⌜ (r ≡ childIn (now (word .entry)) (now (before .entry)) roots place side) × (r < 65700) ⌝ }
+{
+    let first = roots + on_bits_before(word, before, place);
+    if side == 0 {
+        return first;
+    }
+    first + (node_at(word, place) / 2) as usize
+}
+
+// Follows a key's four bits from level `level` on, in a page's words, from the page's root `root`, counted from 0 in the page.
+fn follow<'a>(
+    word: &'a [u64; 9],
+    before: &'a [u16; 9],
+    page: Judged,
+    root: usize,
+    key: u32,
+    level: usize,
+) -> Way
+    requires { ⌜ (JudgedIn (now word) (now before) page) × (root < page .roots) × (level + 4 ≤ 32) × (page .b .0 < 65536) ⌝ }
+    ensures { λ r. ⌜ wayOutcome r ≡ returns (Paged.linked (page .b .0) (Paged.follow key level root (levelsIn 4 (page .roots) (pairsIn (now (word .entry)))))) ⌝ }
+{
+    let mut place = root;
+    let mut passed = 0;
+    while passed < 4 {
+        let side = key_bit(key, level + passed);
+        if bit_of(node_at(word, place), side) == 0 {
+            return Way::Off;
+        }
+        place = child_place(word, before, page.roots, place, side);
+        passed += 1;
+    }
+    Way::Out(OutLink(page.b.0 + (place - page.nodes)))
+}
+
+// Questions 10 and 11 of the page at `at` with so many roots, 9 having got a yes; then the way of a key's four bits from level `level` on, from the page's root `root`.
+pub(crate) fn through_page(
+    image: &[u8],
+    at: usize,
+    roots: usize,
+    root: usize,
+    key: u32,
+    level: usize,
+) -> Way
+    requires { ⌜ (at + 64 ≤ length (now image)) × (1 ≤ roots) × (roots ≤ 60) × (root < roots) × (level + 4 ≤ 32) ⌝ }
+    ensures { λ r. ⌜ wayOutcome r ≡ settle (nodeQuestions roots (pairsAt (now (image .entry)) at)) (Paged.linked (numberAt (now (image .entry)) (at + 2)) (Paged.follow key level root (levelsIn 4 roots (pairsAt (now (image .entry)) at)))) ⌝ }
+{
+    let words = gather(image, at);
+    let shape = check_nodes(&words.word, &words.before, roots);
+    if shape.refusal != 0 {
+        return Way::Refused(shape.refusal);
+    }
+    let page = Judged {
+        roots,
+        nodes: shape.nodes,
+        b: OutLink(number(image, at + 2)),
+    };
+    follow(&words.word, &words.before, page, root, key, level)
+}
