@@ -8,6 +8,8 @@ ghost use Rattle.format.specs.Writer;
 ghost use Rattle.format.specs.Answer;
 ghost use Rattle.format.specs.Scan;
 ghost use Rattle.checker.specs.Outcomes;
+ghost use Rattle.paged_lookup.specs.Outcomes.{lookupOutcome};
+ghost use Rattle.paged_lookup.specs.Paged.{pagedLookup};
 ghost use Rattle.writer.specs.Outcomes.{outcomeOf};
 ghost use Rattle.capi.specs.Encoding.{encoded, encodedAdmission, encodedLookup, lookupBuffer, encodedFind, rectangleOf, WrittenToC};
 ghost use Rattle.capi.specs.Small.{WithinBound, WithinCount};
@@ -16,9 +18,10 @@ use format::Admission;
 use format::Range;
 use format::Rectangle;
 use gate::Scanned;
+use paged_lookup::Found;
+use paged_lookup::Presence;
 use query::ByRank;
 use query::Members;
-use query::Presence;
 use writer::Written;
 
 // The answer of a question that got a no.
@@ -134,11 +137,10 @@ fn fill(out: &mut [u32; 9], rank: u32, pages: [u32; 8])
     ];
 }
 
-#[no_mangle]
-pub extern "C" fn lpt_lookup(img: &[u8], holder: u16, slot: u16, out: &mut [u32; 9]) -> i64
-    ensures { λ r. ⌜ (r ≡ encodedLookup (Answer.lookup (now (img .entry)) holder slot)) × (now (out .exit) ≡ lookupBuffer (Answer.lookup (now (img .entry)) holder slot) (now (out .entry))) ⌝ }
+// What a lookup found: 1 with the nine places filled, 0, or a refusal.
+fn looked_up(found: Found, out: &mut [u32; 9]) -> i64
+    ensures { λ r. ⌜ (r ≡ encodedLookup (lookupOutcome (found .answer) (found .pages))) × (now (out .exit) ≡ lookupBuffer (lookupOutcome (found .answer) (found .pages)) (now (out .entry))) ⌝ }
 {
-    let found = query::lookup(img, holder, slot);
     let presence = found.answer;
     match presence {
         Presence::Listed(rank) => {
@@ -153,6 +155,20 @@ pub extern "C" fn lpt_lookup(img: &[u8], holder: u16, slot: u16, out: &mut [u32;
             return refusal(n);
         }
     }
+}
+
+#[no_mangle]
+pub extern "C" fn lpt_lookup(img: &[u8], holder: u16, slot: u16, out: &mut [u32; 9]) -> i64
+    ensures { λ r. ⌜ (r ≡ encodedLookup (Answer.lookup (now (img .entry)) holder slot)) × (now (out .exit) ≡ lookupBuffer (Answer.lookup (now (img .entry)) holder slot) (now (out .entry))) ⌝ }
+{
+    looked_up(query::lookup(img, holder, slot), out)
+}
+
+#[no_mangle]
+pub extern "C" fn lpt_lookup8(img: &[u8], holder: u16, slot: u16, out: &mut [u32; 9]) -> i64
+    ensures { λ r. ⌜ (r ≡ encodedLookup (pagedLookup (now (img .entry)) holder slot)) × (now (out .exit) ≡ lookupBuffer (pagedLookup (now (img .entry)) holder slot) (now (out .entry))) ⌝ }
+{
+    looked_up(paged_lookup::lookup(img, holder, slot), out)
 }
 
 #[no_mangle]

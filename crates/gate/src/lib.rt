@@ -2,7 +2,7 @@
 use format::LANES;
 use format::one_to;
 use holder::holder_record;
-use query::Presence;
+use paged_lookup::Presence;
 ghost use mathlib.Core.Path.{_≡_};
 ghost use Prim.Native.Nat.{_≤_, _<_};
 ghost use lib.Dec.{ltb};

@@ -15,13 +15,12 @@ use Rattle.format.specs.Key.{holderOf, keyOf, slotOf, unwoven}
 use Rattle.format.specs.Image.{keyCount, keysOf, listOf}
 use Rattle.format.specs.Question.{Question, Outcome, refused, returns, filled, firstNo, imageQuestions, outcome, settle}
 use Rattle.format.specs.Answer.{bufferAfterListing, check, count, find, listing, lookup, lookupAnswer, memberKeys, placesQuestion, rectangleQuestion}
-use Rattle.format.proofs.Accepted.{facts}
-use Rattle.format.proofs.Lookup.{place-none}
+use Rattle.format.proofs.Jobs.{settle-no}
 use Rattle.checker.proofs.After.{refused-no, refused-job, returned-count, accepted-image, accepted-job}
-use Rattle.query.specs.declared.Presence.{Presence}
-use Rattle.query.specs.declared.Presence.the-variants.{Listed, Absent, Refused}
-use Rattle.query.specs.Way.{FoundRight}
-use Rattle.query.specs.Outcomes.{lookupOutcome, NoPages}
+use Rattle.paged_lookup.specs.declared.Presence.{Presence}
+use Rattle.paged_lookup.specs.Outcomes.{lookupOutcome, NoPages}
+use Rattle.paged_lookup.specs.Paged.{pagedLookup}
+use Rattle.paged_lookup.proofs.EightPages.{eight-pages}
 use Rattle.walk.specs.Walk.{Listed as QListed}
 use Rattle.walk.proofs.Places.{written-all}
 
@@ -40,40 +39,18 @@ next-question q qs a e = rw e
 
 -- ---- lookup
 
-module _ (img : List ℕ) (n holder slot : ℕ) where
-  pub lookup-refused : refused n ≡ check img → refused n ≡ lookup img holder slot
-  unfolding lookup settle outcome
-  lookup-refused e = ap (λ o. outcome o (lookupAnswer img (keyOf holder slot))) (sym (refused-no img n e))
-
-  pub lookup-accepted : returns n ≡ check img → lookup img holder slot ≡ returns (lookupAnswer img (keyOf holder slot))
-  unfolding lookup settle outcome
-  lookup-accepted e = ap (λ o. outcome o (lookupAnswer img (keyOf holder slot))) (Rattle.format.proofs.Accepted.yes-of-returned img (sym e ∙ ap returns (returned-count img n e)))
-
-pub found-outcome : (img : List ℕ) (key : ℕ) (answer : Presence) (pages : List ℕ) → FoundRight img key answer pages → (lookupOutcome answer pages ≡ returns (lookupAnswer img key)) × NoPages answer pages
-unfolding lookupOutcome
-found-outcome img key (Listed rank) pages e = (ap returns (sym e), tt)
-found-outcome img key Absent pages e = (ap returns (sym (e .0)), e .1)
-found-outcome img key (Refused n) pages e = absurd e
-
 -- the answer of a lookup is right
 abbrev pub LookupIs : List ℕ → ℕ → ℕ → Presence → List ℕ → Type 0
 LookupIs img holder slot answer pages = (lookupOutcome answer pages ≡ lookup img holder slot) × NoPages answer pages
 
 module _ (img : List ℕ) (n holder slot : ℕ) (answer : Presence) (pages : List ℕ) where
-  pub lookup-no : refused n ≡ check img → answer ≡ Presence.Refused n → pages ≡ replicate 8 0 → LookupIs img holder slot answer pages
-  unfolding lookupOutcome
-  lookup-no e a p = rw a (lookup-refused img n holder slot e, p)
+  pub lookup-refused : refused n ≡ check img → answer ≡ Presence.Refused n → pages ≡ replicate 8 0 → LookupIs img holder slot answer pages
+  unfolding lookupOutcome lookup
+  lookup-refused e a p = rw a (sym (settle-no (imageQuestions img) (lookupAnswer img (keyOf holder slot)) n (refused-no img n e)), p)
 
-  pub lookup-done : returns n ≡ check img → {key : ℕ} → key ≡ keyOf holder slot → FoundRight img key answer pages → LookupIs img holder slot answer pages
-  lookup-done e {key} k f =
-      let o = found-outcome img key answer pages f in
-      (o .0 ∙ ap (λ (x : ℕ). returns (lookupAnswer img x)) k ∙ sym (lookup-accepted img n holder slot e), o .1)
-
-  -- an image without keys
-  pub lookup-none : returns n ≡ check img → All Byte img → n ≡ 0 → answer ≡ Presence.Absent → pages ≡ replicate 8 0 → LookupIs img holder slot answer pages
-  lookup-none e b z a p =
-      let c = facts img (accepted-image img n e b) in
-      lookup-done e refl (rw a (place-none img (keyOf holder slot) b (c .questions) (sym (returned-count img n e) ∙ z), p))
+  -- in an accepted image the eight-page lookup is the full one
+  pub lookup-accepted : returns n ≡ check img → All Byte img → (lookupOutcome answer pages ≡ pagedLookup img holder slot) × NoPages answer pages → LookupIs img holder slot answer pages
+  lookup-accepted e b f = (f .0 ∙ eight-pages .agrees img (accepted-image img n e b) holder slot, f .1)
 
 -- ---- rectangles
 

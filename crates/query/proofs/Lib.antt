@@ -1,7 +1,4 @@
 -- Laws for the jobs over an accepted image. Each file's head says its subject; a file uses only those above it.
 
--- the way of a key down the bands
-pub mod Sides
-pub mod Path
 -- the jobs' answers
 pub mod Jobs

@@ -1,37 +1,22 @@
 // Lookup, count, listing and finding by rank. Each job asks 1 to 13 by itself first.
-mod way;
-
 ghost use mathlib.Core.Path.{_≡_};
 ghost use lib.Dec.{ltb};
-ghost use lib.ListN.{length, replicate};
+ghost use lib.ListN.{length};
 ghost use Rattle.format.specs.Answer;
 ghost use Rattle.format.specs.Exact.{Accepted};
 ghost use Rattle.format.specs.Image.{keyCount};
-ghost use Rattle.query.specs.Outcomes.{lookupOutcome, NoPages, membersOutcome, findOutcome};
+ghost use Rattle.paged_lookup.specs.Outcomes.{lookupOutcome, NoPages};
+ghost use Rattle.query.specs.Outcomes.{membersOutcome, findOutcome};
 use checker::Checked;
 use climb::key_at;
 use format::Admission;
 use format::Rectangle;
+use paged_lookup::Found;
+use paged_lookup::Presence;
+use paged_lookup::no_pages;
 use walk::count_members;
 use walk::list_members;
-use way::path;
 use zorder::unweave;
-use zorder::weave;
-
-// What lookup of a holder and a slot finds.
-pub enum Presence {
-    // The rank; the page numbers stand beside.
-    Listed(u32),
-    Absent,
-    // The number of the question that got a no.
-    Refused(u8),
-}
-
-// What lookup finds, and the eight page numbers on the key's path: all 0 unless the key is listed.
-pub struct Found {
-    pub answer: Presence,
-    pub pages: [u32; 8],
-}
 
 // How many members a rectangle has.
 pub enum Members {
@@ -45,28 +30,13 @@ pub enum ByRank {
     Refused(u8),
 }
 
-// An answer without page numbers.
-fn no_pages(answer: Presence) -> Found
-    ensures { λ r. ⌜ (r .answer ≡ answer) × (r .pages ≡ replicate 8 0) ⌝ }
-{
-    Found {
-        answer,
-        pages: [0u32; 8],
-    }
-}
-
-// Looks a holder and a slot up: the rank and the eight page numbers on the key's path, or absent.
+// Looks a holder and a slot up: the rank and the eight page numbers on the key's path, or absent. In an accepted image the eight-page lookup finds just that.
 pub fn lookup(image: &[u8], holder: u16, slot: u16) -> Found
     ensures { λ r. ⌜ (lookupOutcome (r .answer) (r .pages) ≡ Answer.lookup (now (image .entry)) holder slot) × (NoPages (r .answer) (r .pages)) ⌝ }
 {
     match checker::check(image) {
         Checked::Refused(n) => no_pages(Presence::Refused(n)),
-        Checked::Accepted(keys) => {
-            if keys == 0 {
-                return no_pages(Presence::Absent);
-            }
-            path(image, weave(holder, slot))
-        }
+        Checked::Accepted(_) => paged_lookup::lookup(image, holder, slot),
     }
 }
 

@@ -8,7 +8,7 @@ use Rattle.format.specs.Page.{Byte}
 use Rattle.format.specs.Question.{returns as answers}
 use Rattle.format.specs.Answer.{LookupAnswer, absent, listed, lookup}
 use Rattle.format.specs.Scan.{RecordsFit}
-use Rattle.query.specs.Outcomes.{lookupOutcome}
+use Rattle.paged_lookup.specs.Outcomes.{lookupOutcome}
 use Rattle.format.proofs.Histories.{records-fit}
 use Rattle.format.proofs.Questions.{yes-of-none}
 use Rattle.header.proofs.Refusals.{none-refused}
