@@ -5,7 +5,7 @@ use mathlib.Core.Option.{none, some}
 use Prim.Native.Nat.{ℕ, _+_, _-_, _≤_, _<_}
 use native.Mathlib.Omega.{arith}
 use borrow.Author.Tests.{lt-ltb, le-ltb}
-use Rattle.format.specs.Page.{firstSubtries, levelsIn, nodeCount}
+use Rattle.format.specs.Page.{firstSubtries, levelsIn}
 use Rattle.format.specs.Question.{firstNo, noRoom, nodeQuestions, questionsFrom9}
 use Rattle.format.proofs.Bytes.{length-levelsIn}
 use Rattle.format.proofs.Checked.{nodes-of, nodes-shape}

@@ -1,5 +1,5 @@
 -- A page's levels from counts of on bits before places, step by step as the code takes them: questions 9 to 11, and the page's counts. Assumes nothing.
-use mathlib.Core.Path.{_≡_, sym, ap, ap₂, _∙_}
+use mathlib.Core.Path.{_≡_, refl, sym, ap, ap₂, _∙_}
 use mathlib.Core.Bool.{Bool, true, false, _&&_}
 use mathlib.Core.List.{List, [], _∷_}
 use mathlib.Core.Option.{none, some}
@@ -71,7 +71,7 @@ pub record Second (word counts : List ℕ) (r a : ℕ) : Type 0 where
   pub is : a ≡ marks (pairsIn word) r
   pub few : a ≤ 120
 
-pub second : {word counts : List ℕ} {r : ℕ} → Known word counts r → (a : ℕ) → a ≡ onesBefore word counts r → Second word counts r a
+second : {word counts : List ℕ} {r : ℕ} → Known word counts r → (a : ℕ) → a ≡ onesBefore word counts r → Second word counts r a
 second {word} {counts} {r} k a e =
     let f = rank k r a (omega (arith, k .few-roots)) e in
     record { known = k; is = f; few = omega (arith, marks-few k r, k .few-roots) }
@@ -82,10 +82,15 @@ pub record Third (word counts : List ℕ) (r a b : ℕ) : Type 0 where
   pub is : b ≡ marks (pairsIn word) (r + a)
   pub place : r + b ≡ fourthAt (pairsIn word) r
 
-pub third : {word counts : List ℕ} {r a : ℕ} → Second word counts r a → (b : ℕ) → b ≡ onesBefore word counts (r + a) → Third word counts r a b
+third : {word counts : List ℕ} {r a : ℕ} → Second word counts r a → (b : ℕ) → b ≡ onesBefore word counts (r + a) → Third word counts r a b
 third {word} {counts} {r} {a} s b e =
     let f = rank (s .known) (r + a) b (omega (arith, s .few, s .known .few-roots)) e in
     record { before = s; is = f; place = ap (r +_) (f ∙ ap (λ (x : ℕ). marks (pairsIn word) (r + x)) (s .is)) }
+
+-- both, from the words
+pub levels : {word counts : List ℕ} {r : ℕ} → Gathered word counts → 1 ≤ r → r ≤ 60 → Third word counts r (onesBefore word counts r) (onesBefore word counts (r + onesBefore word counts r))
+levels {word} {counts} {r} g lo hi =
+    third (second (record { gathered = g; some-roots = lo; few-roots = hi }) (onesBefore word counts r) refl) (onesBefore word counts (r + onesBefore word counts r)) refl
 
 -- c on bits in the first three: where the page ends
 pub record Fourth (word counts : List ℕ) (r a b c : ℕ) : Type 0 where

@@ -11,12 +11,20 @@ use Rattle.format.specs.Trie.{onBits}
 use Rattle.format.specs.Page.{firstSubtries, levelsIn, nodeCount, numberAt, pairsAt}
 use Rattle.format.specs.Image.{bands, pageCount, pagesBefore}
 use Rattle.format.specs.Question.{Question, firstNo, noRoom, oneTo, questionsFrom9}
+use Rattle.nodes.specs.Words.{onesBefore}
 use Rattle.checker.specs.declared.page.Shape.{Shape}
 use Rattle.header.specs.Refusal.{refusalOf}
 
 -- how many roots a page has whose first root is t, where next is the first after it; 0 where they are not 1 to 60, as 9 asks
 unfoldable pub rootsFrom : ℕ → ℕ → ℕ
 rootsFrom t next = cond (oneTo 60 (next - t)) (next - t) 0
+
+-- where the third and the fourth level of a page of r roots start, from its words
+abbrev pub thirdIn : List ℕ → List ℕ → ℕ → ℕ
+thirdIn word before r = r + onesBefore word before r
+
+abbrev pub fourthIn : List ℕ → List ℕ → ℕ → ℕ
+fourthIn word before r = r + onesBefore word before (thirdIn word before r)
 
 -- the nodes of the first subtrie of a page of r roots
 abbrev pub firstNodes : ℕ → List ℕ → ℕ

@@ -9,7 +9,7 @@ ghost use lib.ListN.{length};
 ghost use Rattle.format.specs.Page.{pairsAt};
 ghost use Rattle.format.specs.Question.{nodeQuestions};
 ghost use Rattle.nodes.specs.Words.{Gathered, pairsIn};
-ghost use Rattle.checker.specs.Paged.{rootsFrom, firstNodes, questionsAfter, questionsAt, Asked};
+ghost use Rattle.checker.specs.Paged.{rootsFrom, thirdIn, fourthIn, firstNodes, questionsAfter, questionsAt, Asked};
 
 // What the questions of a page find: the number of the first that gets a no, 0 where none does, and then the page's nodes and out-links.
 pub struct Shape {
@@ -42,13 +42,37 @@ pub fn roots_from(t: Root, next: Root) -> usize
     roots
 }
 
-// Questions 10 and 11 of a page's words, with so many roots; 9 got a yes.
-pub fn check_nodes<'a>(word: &'a [u64; 9], before: &'a [u16; 9], roots: usize) -> Shape
+// The place where the third level of a page of so many roots starts, from its words.
+pub fn third_level<'a>(word: &'a [u64; 9], before: &'a [u16; 9], roots: usize) -> usize
     requires { ⌜ (Gathered (now word) (now before)) × (1 ≤ roots) × (roots ≤ 60) ⌝ }
+    ensures { λ r. ⌜ (r ≡ thirdIn (now (word .entry)) (now (before .entry)) roots) × (r ≤ 180) ⌝ }
+{
+    roots + on_bits_before(word, before, roots)
+}
+
+// And the fourth, from the third.
+pub fn fourth_level<'a>(
+    word: &'a [u64; 9],
+    before: &'a [u16; 9],
+    roots: usize,
+    third: usize,
+) -> usize
+    requires { ⌜ (roots ≤ 60) × (third ≡ thirdIn (now word) (now before) roots) × (third ≤ 180) ⌝ }
+    ensures { λ r. ⌜ r ≡ fourthIn (now (word .entry)) (now (before .entry)) roots ⌝ }
+{
+    roots + on_bits_before(word, before, third)
+}
+
+// Questions 10 and 11 of a page's words, with so many roots, whose fourth level starts at place `fourth`; 9 got a yes.
+pub fn check_nodes<'a>(
+    word: &'a [u64; 9],
+    before: &'a [u16; 9],
+    roots: usize,
+    fourth: usize,
+) -> Shape
+    requires { ⌜ (Gathered (now word) (now before)) × (1 ≤ roots) × (roots ≤ 60) × (fourth ≡ fourthIn (now word) (now before) roots) ⌝ }
     ensures { λ r. ⌜ Asked (nodeQuestions roots (pairsIn (now (word .entry)))) (pairsIn (now (word .entry))) roots r ⌝ }
 {
-    let third = roots + on_bits_before(word, before, roots);
-    let fourth = roots + on_bits_before(word, before, third);
     if 240 < fourth {
         return refused(10);
     }
@@ -70,17 +94,20 @@ pub fn check_nodes<'a>(word: &'a [u64; 9], before: &'a [u16; 9], roots: usize) -
     }
 }
 
-// The nodes of the first subtrie of a page of so many roots, from its words.
-fn first_nodes<'a>(word: &'a [u64; 9], before: &'a [u16; 9], roots: usize) -> usize
-    requires { ⌜ (Gathered (now word) (now before)) × (1 ≤ roots) × (roots ≤ 60) ⌝ }
+// The nodes of the first subtrie of a page, from its words, its roots and the places where its third and fourth levels start.
+fn first_nodes<'a>(
+    word: &'a [u64; 9],
+    before: &'a [u16; 9],
+    roots: usize,
+    third: usize,
+    fourth: usize,
+) -> usize
+    requires { ⌜ (Gathered (now word) (now before)) × (1 ≤ roots) × (roots ≤ 60) × (third ≡ thirdIn (now word) (now before) roots) × (fourth ≡ fourthIn (now word) (now before) roots) ⌝ }
     ensures { λ r. ⌜ (r ≡ firstNodes roots (pairsIn (now (word .entry)))) × (r ≤ 15) ⌝ }
 {
-    let second_on = on_bits_before(word, before, roots);
-    let third = roots + second_on;
-    let third_on = on_bits_before(word, before, third);
     let first2 = on_bits_before(word, before, 1);
-    let first3 = on_bits_before(word, before, roots + first2) - second_on;
-    let first4 = on_bits_before(word, before, third + first3) - third_on;
+    let first3 = on_bits_before(word, before, roots + first2) - (third - roots);
+    let first4 = on_bits_before(word, before, third + first3) - (fourth - roots);
     1 + first2 + first3 + first4
 }
 
@@ -90,7 +117,9 @@ fn check_shape(image: &[u8], at: usize, roots: usize, previous: usize) -> Shape
     ensures { λ r. ⌜ Asked (questionsAfter (now (image .entry)) at roots previous) (pairsAt (now (image .entry)) at) roots r ⌝ }
 {
     let words = nodes::gather(image, at);
-    let found = check_nodes(&words.word, &words.before, roots);
+    let third = third_level(&words.word, &words.before, roots);
+    let fourth = fourth_level(&words.word, &words.before, roots, third);
+    let found = check_nodes(&words.word, &words.before, roots, fourth);
     if found.refusal != 0 {
         return found;
     }
@@ -98,7 +127,7 @@ fn check_shape(image: &[u8], at: usize, roots: usize, previous: usize) -> Shape
     if 236 < previous {
         return found;
     }
-    if first_nodes(&words.word, &words.before, roots) + previous <= 240 {
+    if first_nodes(&words.word, &words.before, roots, third, fourth) + previous <= 240 {
         return refused(12);
     }
     found

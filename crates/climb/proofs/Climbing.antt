@@ -22,7 +22,7 @@ use Rattle.pages.specs.Page.{Ready, PageRead, childIn}
 use Rattle.climb.specs.Climb.{ClimbRight}
 use Rattle.climb.specs.Select.{SideOf}
 use Rattle.pages.proofs.Pages.{bytes, checked}
-use Rattle.pages.proofs.Follow.{page-small, page-node, page-marks, page-child, page-first, page-on-bits}
+use Rattle.pages.proofs.PageWords.{page-small, page-node, page-marks, page-child, page-first, page-on-bits}
 
 -- y is what stands in the level below the band where the climb started: it is still there, or at a node, k levels up, whose prefix goes on to y with the bits passed
 pub data Up (img : List ℕ) (b i y place bits k : ℕ) : Type 0 where

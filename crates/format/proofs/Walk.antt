@@ -152,14 +152,13 @@ module _ (img : List ℕ) (a : All Byte img) (c : Checked img) (some : 1 ≤ key
       let e : i + suc m ≡ suc i + m = omega arith in
       omega (arith, ap (pageT img b) e, T-rises b lo hi (suc i) m (omega arith), next-roots img a c b lo hi i (omega arith), next-more img a c b lo hi i (omega arith), c .page b i lo hi (omega arith) .some-roots)
 
-  -- the page of a root, by its number in the image
-  pub page-is : (key b i : ℕ) → 1 ≤ b → b ≤ 8 → i < pageCount img b → pageT img b i ≤ rootOf img key b → rootOf img key b < pageT img b i + pageRoots img b i → pageOf img key b ≡ pageNumber img b i
-  unfolding pageOf pageWith
-  page-is key b i lo hi h k m =
-      ap (pageNumber img b)
-      (last-below (pageCount img b) (λ j. leb (pageT img b j) (rootOf img key b)) i h (le-leb (pageT img b i) (rootOf img key b) k)
+  -- the page that has a root is the last whose T is at or below the root's number
+  pub page-with : (b i n : ℕ) → 1 ≤ b → b ≤ 8 → i < pageCount img b → pageT img b i ≤ n → n < pageT img b i + pageRoots img b i → pageWith img b n ≡ i
+  unfolding pageWith
+  page-with b i n lo hi h k m =
+      last-below (pageCount img b) (λ j. leb (pageT img b j) n) i h (le-leb (pageT img b i) n k)
       (λ j p q. let e : suc i + (j - suc i) ≡ j = omega arith in
-      lt-leb (pageT img b j) (rootOf img key b) (omega (arith, ap (pageT img b) e, T-rises b lo hi (suc i) (j - suc i) (omega arith), next-roots img a c b lo hi i h, next-more img a c b lo hi i (omega arith)))))
+      lt-leb (pageT img b j) n (omega (arith, ap (pageT img b) e, T-rises b lo hi (suc i) (j - suc i) (omega arith), next-roots img a c b lo hi i h, next-more img a c b lo hi i (omega arith))))
 
   -- a key that is listed has its prefix at each level
   pub listed-prefix : (key d : ℕ) → d ≤ 32 → List·Memᴰ key (keysOf img) → List·Memᴰ (key / 2 ^ (32 - d)) (prefixesAt img d)

@@ -71,7 +71,7 @@ BandRight img key b (returns off) = lookupAnswer img key ≡ absent
 
 module _ {img : List ℕ} (r : Ready img) (b root : ℕ) (lo : 1 ≤ b) (hi : b ≤ 8) (within : root < rootCount img b) where
   -- 27 gets a yes: the first page's T is 0
-  has : hasPage img b root ≡ true
+  pub has : hasPage img b root ≡ true
   has = page-there img b root 0 (some-pages r b lo hi) (omega (arith, checked r .page b 0 lo hi (some-pages r b lo hi) .counters .0))
 
   pub last-at : LastAt img b root (pageWith img b root)

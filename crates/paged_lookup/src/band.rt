@@ -1,13 +1,16 @@
 // The way of a key through one band: its page is found, judged and followed.
 ghost use mathlib.Core.Path.{_≡_};
+ghost use mathlib.Core.Bool.{true};
 ghost use Prim.Native.Nat.{_+_, _*_, _≤_, _<_};
 ghost use lib.ListN.{length};
 ghost use Rattle.format.specs.Image.{rootCount};
 ghost use Rattle.format.specs.Question.{andThen};
 ghost use Rattle.checker.specs.Paged.{BandAt};
+ghost use Rattle.pages.specs.Page.{Ready};
 ghost use Rattle.paged_lookup.specs.Paged;
 ghost use Rattle.paged_lookup.specs.Way.{wayOutcome, Upto, StepRight};
 use crate::page::Way;
+use crate::page::through_accepted_page;
 use crate::page::through_page;
 use checker::band::next_root;
 use checker::page::roots_from;
@@ -16,6 +19,8 @@ use header::links_due;
 use header::number;
 use header::page_count;
 use header::root_count;
+use pages::band_at;
+use pages::head_of_root;
 
 // A key's way through a band, and the number of its page in the image.
 pub struct Step {
@@ -67,8 +72,8 @@ fn leave(image: &[u8], band: usize, way: Way) -> Way
     }
 }
 
-// The way of a key through band `band` from a root. The band's first page is page `first` of the image.
-pub(crate) fn through(image: &[u8], band: usize, first: usize, root: Root, key: u32) -> Step
+// The way of a key through band `band` from a root, in any image whose 1 to 7 get a yes: the page is judged. The band's first page is page `first` of the image.
+fn through_judged(image: &[u8], band: usize, first: usize, root: Root, key: u32) -> Step
     requires { ⌜ (BandAt (now image) band first) × (root .0 < rootCount (now image) band) ⌝ }
     ensures { λ r. ⌜ StepRight (now (image .entry)) key band (root .0) r ⌝ }
 {
@@ -90,4 +95,35 @@ pub(crate) fn through(image: &[u8], band: usize, first: usize, root: Root, key: 
         way: leave(image, band, way),
         page,
     }
+}
+
+// The same in an accepted image, where the page is found by halves and not judged again.
+fn through_accepted(image: &[u8], band: usize, first: usize, root: Root, key: u32) -> Step
+    requires { ⌜ (Ready (now image)) × (BandAt (now image) band first) × (root .0 < rootCount (now image) band) ⌝ }
+    ensures { λ r. ⌜ StepRight (now (image .entry)) key band (root .0) r ⌝ }
+{
+    let head = head_of_root(image, band_at(image, band, first), root);
+    let way = through_accepted_page(image, head, root, key);
+    Step {
+        way: leave(image, band, way),
+        page: head.number,
+    }
+}
+
+// The way of a key through band `band` from a root; `accepted` says that the image is known to be.
+pub(crate) fn through(
+    image: &[u8],
+    band: usize,
+    first: usize,
+    root: Root,
+    key: u32,
+    accepted: bool,
+) -> Step
+    requires { ⌜ (accepted ≡ true → Ready (now image)) × (BandAt (now image) band first) × (root .0 < rootCount (now image) band) ⌝ }
+    ensures { λ r. ⌜ StepRight (now (image .entry)) key band (root .0) r ⌝ }
+{
+    if accepted {
+        return through_accepted(image, band, first, root, key);
+    }
+    through_judged(image, band, first, root, key)
 }

@@ -3,7 +3,9 @@ mod band;
 mod page;
 
 ghost use mathlib.Core.Path.{_≡_};
+ghost use mathlib.Core.Bool.{true};
 ghost use lib.ListN.{replicate};
+ghost use Rattle.format.specs.Exact.{Accepted};
 ghost use Rattle.paged_lookup.specs.Paged.{pagedAnswer, pagedLookup};
 ghost use Rattle.paged_lookup.specs.Outcomes.{lookupOutcome, NoPages};
 ghost use Rattle.paged_lookup.specs.Way.{HeaderYes};
@@ -41,9 +43,9 @@ pub fn no_pages(answer: Presence) -> Found
     }
 }
 
-// The walk of a key from band to band, in an image whose 1 to 7 get a yes.
-fn walk(image: &[u8], key: u32) -> Found
-    requires { ⌜ HeaderYes (now image) ⌝ }
+// The walk of a key from band to band, in an image whose 1 to 7 get a yes; `accepted` says that it is known to be.
+fn walk(image: &[u8], key: u32, accepted: bool) -> Found
+    requires { ⌜ (HeaderYes (now image)) × (accepted ≡ true → Accepted (now image)) ⌝ }
     ensures { λ r. ⌜ (lookupOutcome (r .answer) (r .pages) ≡ pagedAnswer (now (image .entry)) key) × (NoPages (r .answer) (r .pages)) ⌝ }
 {
     if key_count(image) == 0 {
@@ -55,7 +57,7 @@ fn walk(image: &[u8], key: u32) -> Found
     let mut passed = 0;
     while passed < 8 {
         let band = passed + 1;
-        let step = through(image, band, first, cross(link), key);
+        let step = through(image, band, first, cross(link), key, accepted);
         let way = step.way;
         match way {
             Way::Refused(n) => return no_pages(Presence::Refused(n)),
@@ -80,5 +82,13 @@ pub fn lookup(image: &[u8], holder: u16, slot: u16) -> Found
     if refusal != 0 {
         return no_pages(Presence::Refused(refusal));
     }
-    walk(image, weave(holder, slot))
+    walk(image, weave(holder, slot), false)
+}
+
+// The same in an accepted image, whose pages are not judged again: for a job that has checked it.
+pub fn lookup_accepted(image: &[u8], holder: u16, slot: u16) -> Found
+    requires { ⌜ Accepted (now image) ⌝ }
+    ensures { λ r. ⌜ (lookupOutcome (r .answer) (r .pages) ≡ pagedLookup (now (image .entry)) holder slot) × (NoPages (r .answer) (r .pages)) ⌝ }
+{
+    walk(image, weave(holder, slot), true)
 }

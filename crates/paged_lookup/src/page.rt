@@ -1,21 +1,26 @@
 // The way of a key in one page.
 ghost use mathlib.Core.Path.{_≡_};
-ghost use Prim.Native.Nat.{_+_, _≤_, _<_};
+ghost use Prim.Native.Nat.{_+_, _-_, _*_, _≤_, _<_};
 ghost use lib.ListN.{length};
 ghost use Rattle.format.specs.Key.{keyBit};
 ghost use Rattle.format.specs.Trie.{bit};
 ghost use Rattle.format.specs.Page.{levelsIn, numberAt, pairsAt};
 ghost use Rattle.format.specs.Question.{nodeQuestions, returns, settle};
 ghost use Rattle.nodes.specs.Words.{pairsIn};
-ghost use Rattle.pages.specs.Page.{childIn};
+ghost use Rattle.pages.specs.Page.{Ready, HeadRead, childIn};
 ghost use Rattle.paged_lookup.specs.Paged;
 ghost use Rattle.paged_lookup.specs.Way.{wayOutcome, JudgedIn};
 use checker::page::check_nodes;
+use checker::page::fourth_level;
+use checker::page::third_level;
 use format::OutLink;
+use format::Root;
 use header::number;
 use nodes::gather;
 use nodes::node_at;
 use nodes::on_bits_before;
+use pages::PageHead;
+use pages::node_count;
 
 // Where a key's bits lead: to an out-link of the band, or to an off bit; or the number of the question that got a no.
 pub enum Way {
@@ -105,7 +110,9 @@ pub(crate) fn through_page(
     ensures { λ r. ⌜ wayOutcome r ≡ settle (nodeQuestions roots (pairsAt (now (image .entry)) at)) (Paged.linked (numberAt (now (image .entry)) (at + 2)) (Paged.follow key level root (levelsIn 4 roots (pairsAt (now (image .entry)) at)))) ⌝ }
 {
     let words = gather(image, at);
-    let shape = check_nodes(&words.word, &words.before, roots);
+    let third = third_level(&words.word, &words.before, roots);
+    let fourth = fourth_level(&words.word, &words.before, roots, third);
+    let shape = check_nodes(&words.word, &words.before, roots, fourth);
     if shape.refusal != 0 {
         return Way::Refused(shape.refusal);
     }
@@ -115,4 +122,28 @@ pub(crate) fn through_page(
         b: OutLink(number(image, at + 2)),
     };
     follow(&words.word, &words.before, page, root, key, level)
+}
+
+// The same in a page of an accepted image, which is not judged again: its nodes are counted by its out-links.
+pub(crate) fn through_accepted_page(image: &[u8], head: PageHead, root: Root, key: u32) -> Way
+    requires { ⌜ (Ready (now image)) × (HeadRead (now image) head) × (head .t .0 ≤ root .0) × (root .0 < head .t .0 + head .roots) ⌝ }
+    ensures { λ r. ⌜ wayOutcome r ≡ settle (nodeQuestions (head .roots) (pairsAt (now (image .entry)) (64 * head .number))) (Paged.linked (numberAt (now (image .entry)) (64 * head .number + 2)) (Paged.follow key (4 * (head .band - 1)) (root .0 - head .t .0) (levelsIn 4 (head .roots) (pairsAt (now (image .entry)) (64 * head .number))))) ⌝ }
+{
+    let words = gather(image, 64 * head.number);
+    let nodes = node_count(head, &words.before);
+    let b = head.b;
+    let page = Judged {
+        roots: head.roots,
+        nodes,
+        b,
+    };
+    let level = 4 * (head.band - 1);
+    follow(
+        &words.word,
+        &words.before,
+        page,
+        root.0 - head.t.0,
+        key,
+        level,
+    )
 }

@@ -13,7 +13,7 @@ use Rattle.pages.specs.declared.Page.{Page}
 use Rattle.pages.specs.declared.PageHead.{PageHead}
 use Rattle.pages.specs.Page.{Ready, HeadRead, PageRead}
 use Rattle.pages.proofs.Pages.{bytes, checked}
-use Rattle.pages.proofs.Follow.{page-small, page-fits, page-on-bits}
+use Rattle.pages.proofs.PageWords.{page-small, page-fits, page-on-bits}
 
 -- the page of a head
 abbrev pub opened : List ℕ → PageHead → Page

@@ -3,5 +3,5 @@ pub mod Pages
 pub mod Counts
 pub mod Search
 pub mod Opened
-pub mod Follow
+pub mod PageWords
 pub mod Heads

@@ -9,14 +9,13 @@ use borrow.Author.Tests.{le-leb, lt-leb, lt-ltb, le-ltb}
 use lib.Dec.{leb, ltb}
 use lib.ListN.{length, getD, replicate, List·getD-map}
 use Rattle.format.specs.declared.Rectangle.{Rectangle}
-use Rattle.format.specs.Seq.{All}
-use Rattle.format.specs.Page.{Byte}
 use Rattle.format.specs.Key.{holderOf, keyOf, slotOf, unwoven}
 use Rattle.format.specs.Image.{keyCount, keysOf, listOf}
 use Rattle.format.specs.Question.{Question, Outcome, refused, returns, filled, firstNo, imageQuestions, outcome, settle}
+use Rattle.format.specs.Exact.{Accepted}
 use Rattle.format.specs.Answer.{bufferAfterListing, check, count, find, listing, lookup, lookupAnswer, memberKeys, placesQuestion, rectangleQuestion}
 use Rattle.format.proofs.Jobs.{settle-no}
-use Rattle.checker.proofs.After.{refused-no, refused-job, returned-count, accepted-image, accepted-job}
+use Rattle.checker.proofs.After.{refused-no, refused-job, returned-count, accepted-job}
 use Rattle.paged_lookup.specs.declared.Presence.{Presence}
 use Rattle.paged_lookup.specs.Outcomes.{lookupOutcome, NoPages}
 use Rattle.paged_lookup.specs.Paged.{pagedLookup}
@@ -48,9 +47,9 @@ module _ (img : List ℕ) (n holder slot : ℕ) (answer : Presence) (pages : Lis
   unfolding lookupOutcome lookup
   lookup-refused e a p = rw a (sym (settle-no (imageQuestions img) (lookupAnswer img (keyOf holder slot)) n (refused-no img n e)), p)
 
-  -- in an accepted image the eight-page lookup is the full one
-  pub lookup-accepted : returns n ≡ check img → All Byte img → (lookupOutcome answer pages ≡ pagedLookup img holder slot) × NoPages answer pages → LookupIs img holder slot answer pages
-  lookup-accepted e b f = (f .0 ∙ eight-pages .agrees img (accepted-image img n e b) holder slot, f .1)
+-- in an accepted image the eight-page lookup is the full one
+pub lookup-agrees : (img : List ℕ) (holder slot : ℕ) (answer : Presence) (pages : List ℕ) → Accepted img → (lookupOutcome answer pages ≡ pagedLookup img holder slot) × NoPages answer pages → LookupIs img holder slot answer pages
+lookup-agrees img holder slot answer pages a f = (f .0 ∙ eight-pages .agrees img a holder slot, f .1)
 
 -- ---- rectangles
 

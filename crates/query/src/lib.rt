@@ -13,6 +13,7 @@ use format::Admission;
 use format::Rectangle;
 use paged_lookup::Found;
 use paged_lookup::Presence;
+use paged_lookup::lookup_accepted;
 use paged_lookup::no_pages;
 use walk::count_members;
 use walk::list_members;
@@ -36,7 +37,7 @@ pub fn lookup(image: &[u8], holder: u16, slot: u16) -> Found
 {
     match checker::check(image) {
         Checked::Refused(n) => no_pages(Presence::Refused(n)),
-        Checked::Accepted(_) => paged_lookup::lookup(image, holder, slot),
+        Checked::Accepted(_) => lookup_accepted(image, holder, slot),
     }
 }
 

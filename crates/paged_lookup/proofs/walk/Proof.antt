@@ -9,10 +9,10 @@ use Rattle.paged_lookup.proofs.walk.Statement.{statement}
 use Rattle.paged_lookup.proofs.walk.Tie as tie
 
 abbrev Inv-loop : tie.InvT-loop
-Inv-loop image key pages₀ link₀ first₀ passed₀ pages link first passed = Walking image key pages (link .0) first passed
+Inv-loop image key accepted pages₀ link₀ first₀ passed₀ pages link first passed = Walking image key pages (link .0) first passed
 
 abbrev μ-loop : tie.MeasureT-loop
-μ-loop image key pages₀ link₀ first₀ passed₀ pages link first passed = 8 - passed
+μ-loop image key accepted pages₀ link₀ first₀ passed₀ pages link first passed = 8 - passed
 
 returns : tie.Need-returns Inv-loop μ-loop
 returns c = let n = c .no-pages .ensures in absent-is (no-keys-answer _ _ (sym (c .before .before .key-count .ensures .0) ∙ c .before .if1 .taken)) (n .0) (n .1)
@@ -21,13 +21,18 @@ loop-holds : tie.Need-loop-holds Inv-loop μ-loop
 loop-holds c =
     let k = c .before in
     let a = k .before .before in
-    walking-start (a .args .key) (bytes-of (a .args .image .now) (λ i. k .before .shared-slice-known .given i .fits)) (a .pre) (λ z. c .if1 .left (k .key-count .ensures .0 ∙ z))
+    walking-start (a .args .key) (bytes-of (a .args .image .now) (λ i. k .before .shared-slice-known .given i .fits)) (a .pre .0) (λ z. c .if1 .left (k .key-count .ensures .0 ∙ z))
 
 through-requires : tie.Need-through-requires Inv-loop μ-loop
 through-requires c κs =
     let l = c .before in
     let s = l .before .loop .inv in
-    (walking-band s (l .loop-test .taken), omega (arith, s .link-in (l .loop-test .taken), ap (λ x. x .0) (c .cross .ensures)))
+    let k = l .before .before .before in
+    let p = k .before .before .pre in (
+      λ a. record { accepted = p .1 a; some = omega (arith, l .before .before .if1 .left, k .key-count .ensures .0) },
+      walking-band s (l .loop-test .taken),
+      omega (arith, s .link-in (l .loop-test .taken), ap (λ x. x .0) (c .cross .ensures)),
+    )
 
 returns-2 : tie.Need-returns-2 Inv-loop μ-loop
 returns-2 c =
@@ -70,7 +75,7 @@ walk-spec =
     (tie.spec
     Inv-loop
     μ-loop
-    (λ c κs. header-yes-of _ (c .before .pre) .long)
+    (λ c κs. header-yes-of _ (c .before .pre .0) .long)
     (λ c κs. search needs)
     returns
     loop-holds

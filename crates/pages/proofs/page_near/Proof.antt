@@ -3,7 +3,7 @@ use mathlib.Core.Path.{_∙_}
 use native.Mathlib.Omega.{arith}
 use borrow.Author.Needs.{needs}
 use Rattle.pages.proofs.Pages.{T-small}
-use Rattle.pages.proofs.Follow.{page-small}
+use Rattle.pages.proofs.PageWords.{page-small}
 use Rattle.pages.proofs.Heads.{opened-read}
 use Rattle.pages.proofs.page_near.Statement.{statement}
 use Rattle.pages.proofs.page_near.Tie as tie

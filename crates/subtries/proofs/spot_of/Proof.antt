@@ -3,7 +3,7 @@ use mathlib.Core.Path.{refl}
 use native.Mathlib.Omega.{arith}
 use borrow.Author.Needs.{needs}
 use Rattle.pages.proofs.Pages.{B-small, T-small, page-number-small}
-use Rattle.pages.proofs.Follow.{page-small}
+use Rattle.pages.proofs.PageWords.{page-small}
 use Rattle.subtries.proofs.Subtries.{starts-fit, link-is}
 use Rattle.subtries.proofs.Spots.{spot-made}
 use Rattle.subtries.proofs.spot_of.Statement.{statement}

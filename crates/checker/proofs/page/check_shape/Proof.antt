@@ -32,9 +32,19 @@ gathered c = gathered-from (img c) (bytes-of (img c) (λ i. c .before .shared-sl
 pairs : (c : tie.After-gather) → pairsIn (c .gather .result .word) ≡ pairsAt (img c) (at c)
 pairs c = pairs-are (img c) (bytes-of (img c) (λ i. c .before .shared-slice-known .given i .fits)) (at c) (c .before .before .pre .0) (c .gather .result) (c .gather .ensures)
 
+-- where the third and the fourth level start
+abbrev g₁ : tie.After-third-level → tie.After-gather
+g₁ c = c .before .before .before .before
+
+abbrev g₂ : tie.After-fourth-level → tie.After-third-level
+g₂ c = c .before .before .before .before
+
 -- what 9 to 11 find
+abbrev two : tie.After-check-nodes → tie.After-fourth-level
+two c = c .before .before .before .before
+
 abbrev g : tie.After-check-nodes → tie.After-gather
-g c = c .before .before .before .before
+g c = g₁ (g₂ (two c))
 
 found : (c : tie.After-check-nodes) → Asked (nodeQuestions (roots (g c)) (pairsAt (img (g c)) (at (g c)))) (pairsAt (img (g c)) (at (g c))) (roots (g c)) (c .check-nodes .result)
 found c = subst (λ (ps : List ℕ). Asked (nodeQuestions (roots (g c)) ps) ps (roots (g c)) (c .check-nodes .result)) (pairs (g c)) (c .check-nodes .ensures)
@@ -52,8 +62,17 @@ n c = c .before .before .before .before .before .before .before
 first : (c : tie.After-first-nodes) → c .first-nodes .result ≡ firstNodes (roots (g (n c))) (pairsAt (img (g (n c))) (at (g (n c))))
 first c = c .first-nodes .ensures .0 ∙ ap (firstNodes (roots (g (n c)))) (pairs (g (n c)))
 
+third-level-requires : tie.Need-third-level-requires
+third-level-requires c κs = let g = c .before .before .before in (gathered g, g .before .before .pre .1, g .before .before .pre .2)
+
+fourth-level-requires : tie.Need-fourth-level-requires
+fourth-level-requires c κs = let t = c .before .before .before in (g₁ t .before .before .pre .2, t .third-level .ensures .0, t .third-level .ensures .1)
+
 check-nodes-requires : tie.Need-check-nodes-requires
-check-nodes-requires c κs = let g = c .before .before .before in (gathered g, g .before .before .pre .1, g .before .before .pre .2)
+check-nodes-requires c κs =
+    let t = c .before .before .before in
+    let g = g₁ (g₂ t) in
+    (gathered g, g .before .before .pre .1, g .before .before .pre .2, t .fourth-level .ensures)
 
 returns : tie.Need-returns
 unfolding questionsAfter
@@ -64,7 +83,10 @@ unfolding questionsAfter
 returns-2 c = let z = c .before .if1 .left in needed _ _ _ (found (c .before .before .before)) z (omega (arith, four (c .before .before .before) z, c .if2 .taken))
 
 first-nodes-requires : tie.Need-first-nodes-requires
-first-nodes-requires c κs = let g = g (c .before .before .before .before .before .before) in (gathered g, g .before .before .pre .1, g .before .before .pre .2)
+first-nodes-requires c κs =
+    let t = two (c .before .before .before .before .before .before) in
+    let g = g₁ (g₂ t) in
+    (gathered g, g .before .before .pre .1, g .before .before .pre .2, g₂ t .third-level .ensures .0, t .fourth-level .ensures)
 
 returns-3 : tie.Need-returns-3
 unfolding questionsAfter
@@ -81,6 +103,8 @@ check-shape-spec =
     tie.close
     (tie.spec
     (λ c κs. search needs)
+    third-level-requires
+    fourth-level-requires
     check-nodes-requires
     returns
     returns-2
