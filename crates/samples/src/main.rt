@@ -1,5 +1,9 @@
 // A test: the sample plates that are not proved as theorems, packings at their edges, and every refusal number, through the public jobs.
 // Each case prints a line, and the last line counts those that were right.
+mod beside;
+mod eight_pages;
+mod eight_refusals;
+mod found;
 mod gates;
 mod holders;
 mod images;
@@ -11,6 +15,28 @@ mod questions;
 mod refusals;
 mod say;
 mod spread;
+
+// The eight-page lookup.
+fn by_eight_pages(tally: say::Tally) -> say::Tally {
+    let mut t = eight_pages::single_pages(tally);
+    t = eight_pages::subtries(t);
+    t = eight_pages::dense_pages(t);
+    t = eight_pages::far_apart(t);
+    t = eight_pages::headers(t);
+    t = eight_refusals::band_pages(t);
+    t = eight_refusals::two_heads(t);
+    t = eight_refusals::root_counts(t);
+    t = eight_refusals::page_nodes(t);
+    t = eight_refusals::links(t);
+    t = eight_refusals::several_links(t);
+    t = eight_refusals::large_links(t);
+    t = beside::order(t);
+    t = beside::exchanged(t);
+    t = beside::last_pages(t);
+    t = beside::other_pages(t);
+    t = beside::packing(t);
+    beside::sums(t)
+}
 
 fn main() {
     let mut tally = say::none();
@@ -30,6 +56,7 @@ fn main() {
     tally = questions::admissions(tally);
     tally = questions::rectangles(tally);
     tally = questions::ranks(tally);
+    tally = by_eight_pages(tally);
     tally = gates::lockouts(tally);
     tally = gates::limits(tally);
     tally = holders::passed_back(tally);

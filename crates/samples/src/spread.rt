@@ -178,7 +178,7 @@ pub fn three_records(tally: Tally) -> Tally {
 }
 
 // The image of 4,096 keys as far apart as they can be: 64 slots of each of 64 holders, the slots and the holders 1,024 apart.
-fn far_apart_image() -> [u8; 23296] {
+pub fn far_apart_image() -> [u8; 23296] {
     let keys = steps(1048576);
     let mut image = [0u8; 23296];
     writer::write_either(&keys[0..4096], 0, &mut image);

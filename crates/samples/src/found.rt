@@ -1,0 +1,124 @@
+// What the cases of the eight-page lookup compare: whole answers, of one lookup or of both.
+use crate::images::two_pages_with;
+use crate::images::with_byte;
+use crate::say::Tally;
+use crate::say::case;
+use paged_lookup::Found;
+use paged_lookup::Presence;
+use paged_lookup::no_pages;
+use testing::starts_with;
+
+// A number of its own for each answer: the rank, or one that no rank is.
+fn number_of(answer: Presence) -> u64 {
+    match answer {
+        Presence::Listed(rank) => rank as u64,
+        Presence::Absent => 4294967296,
+        Presence::Refused(n) => 4294967297 + n as u64,
+    }
+}
+
+// Whether two answers are the same, page numbers too.
+fn are_same(found: Found, expected: Found) -> bool {
+    let pages = found.pages;
+    let expected_pages = expected.pages;
+    if !starts_with(&pages, &expected_pages) {
+        return false;
+    }
+    let answer = found.answer;
+    let expected_answer = expected.answer;
+    number_of(answer) == number_of(expected_answer)
+}
+
+pub fn listed(rank: u32, pages: [u32; 8]) -> Found {
+    Found {
+        answer: Presence::Listed(rank),
+        pages,
+    }
+}
+
+// Listed, where the bands 1 to 7 have a page each: in the pages 1 to 7 and `last`.
+pub fn in_page(rank: u32, last: u32) -> Found {
+    listed(rank, [1, 2, 3, 4, 5, 6, 7, last])
+}
+
+pub fn absent() -> Found {
+    no_pages(Presence::Absent)
+}
+
+pub fn refused(n: u8) -> Found {
+    no_pages(Presence::Refused(n))
+}
+
+// A case: the eight-page lookup gives this answer.
+pub fn finds(
+    tally: Tally,
+    names: &[u8],
+    image: &[u8],
+    holder: u16,
+    slot: u16,
+    expected: Found,
+) -> Tally {
+    let found = paged_lookup::lookup(image, holder, slot);
+    case(tally, names, are_same(found, expected))
+}
+
+// The same of the image of key 0 with another byte at a place.
+pub fn finds_byte(
+    tally: Tally,
+    names: &[u8],
+    at: usize,
+    byte: u8,
+    holder: u16,
+    slot: u16,
+    expected: Found,
+) -> Tally {
+    let image = with_byte(at, byte);
+    finds(tally, names, &image, holder, slot, expected)
+}
+
+// The same of the image of 61 subtries in two pages.
+pub fn finds_two(
+    tally: Tally,
+    names: &[u8],
+    at: usize,
+    byte: u8,
+    holder: u16,
+    slot: u16,
+    expected: Found,
+) -> Tally {
+    let image = two_pages_with(at, byte);
+    finds(tally, names, &image, holder, slot, expected)
+}
+
+// A case: the eight-page lookup and the full one both give this answer.
+pub fn both_find(
+    tally: Tally,
+    names: &[u8],
+    image: &[u8],
+    holder: u16,
+    slot: u16,
+    expected: Found,
+) -> Tally {
+    let full = query::lookup(image, holder, slot);
+    if !are_same(full, expected) {
+        return case(tally, names, false);
+    }
+    finds(tally, names, image, holder, slot, expected)
+}
+
+// A case: the eight-page lookup gives this answer, and the full one refuses with `n`.
+pub fn finds_beside(
+    tally: Tally,
+    names: &[u8],
+    image: &[u8],
+    holder: u16,
+    slot: u16,
+    expected: Found,
+    n: u8,
+) -> Tally {
+    let full = query::lookup(image, holder, slot);
+    if !are_same(full, refused(n)) {
+        return case(tally, names, false);
+    }
+    finds(tally, names, image, holder, slot, expected)
+}
