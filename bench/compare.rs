@@ -10,13 +10,15 @@ fn lanes() -> impl Iterator<Item = u32> {
     (1..=LANES as u32).chain([0, 9, 255, 1 << 31, 256 + 1, 65536 + 8])
 }
 
-/// What came up among the scans.
+/// What came up among the scans and the lookups.
 #[derive(Default)]
 struct Seen {
     /// lane and answer, 0 for an opening
     lanes: BTreeSet<(u32, i64)>,
     /// of holders with several admissions: the answer by the card's own record alone, by the others' alone, and the answer
     holders: BTreeMap<(i64, i64, i64), usize>,
+    /// what the eight-page lookup answered where the full one refused
+    eight: BTreeMap<i64, usize>,
 }
 
 impl Seen {
@@ -31,6 +33,11 @@ impl Seen {
         for by in [(0, -25, -25), (0, -26, -26), (-25, 0, -25), (-26, 0, -26)] {
             let n = self.holders.get(&by).copied().unwrap_or(0);
             assert!(n >= 100, "{n} scans that give, by the own record, by the others and by all, {by:?}");
+        }
+        // beside the damage, into it, and past the last page or number
+        for x in [1, 0, -9, -10, -11, -27, -28] {
+            let n = self.eight.get(&x).copied().unwrap_or(0);
+            assert!(n >= 10, "{n} eight-page lookups that give {x} where the full one refuses");
         }
     }
 }
@@ -148,12 +155,13 @@ pub fn compare(ds: &[Data], a: &Jobs, b: &Jobs) -> usize {
             for i in 0..12 {
                 let k = if i % 2 == 0 { list[r.below(list.len() as u64) as usize] } else { let (holder, slot) = unweave(d.misses[r.below(1024) as usize]); Admission { holder, slot } };
                 compare_jobs(d, &img, list.len(), k, i, &mut r, a, b);
+                compare_eight(&img, k, a, b, &mut seen);
                 let other = if i % 5 == 4 { 65536 * r.below(2) as u32 + r.below(2) as u32 } else { 0 };
                 let gate = Gate { img: &img, list: &list, sound, lift: lift + other };
                 for lane in lanes() {
                     compare_scan(&gate, k, lane, &mut r, a, b, &mut seen);
                 }
-                n += 6 + lanes().count();
+                n += 7 + lanes().count();
             }
         }
     }
@@ -161,7 +169,7 @@ pub fn compare(ds: &[Data], a: &Jobs, b: &Jobs) -> usize {
     n
 }
 
-/// Every job but the scan, once.
+/// Every job but the scan and the eight-page lookup, once.
 fn compare_jobs(d: &Data, img: &[u8], keys: usize, k: Admission, i: usize, r: &mut Rng, a: &Jobs, b: &Jobs) {
     let key = (a.key)(k.holder, k.slot);
     assert_eq!(key, (b.key)(k.holder, k.slot), "key");
@@ -181,4 +189,18 @@ fn compare_jobs(d: &Data, img: &[u8], keys: usize, k: Admission, i: usize, r: &m
     let (mut u, mut v) = (vec![5u32; room], vec![5u32; room]);
     let (x, y) = ((a.list)(img, q, &mut u), (b.list)(img, q, &mut v));
     assert!(x == y && u == v, "list {x} {y}");
+}
+
+/// The eight-page lookup, once.
+fn compare_eight(img: &[u8], k: Admission, a: &Jobs, b: &Jobs, seen: &mut Seen) {
+    let (mut p, mut q) = ([9u32; 9], [9u32; 9]);
+    let (x, y) = ((a.lookup8)(img, k.holder, k.slot, &mut p), (b.lookup8)(img, k.holder, k.slot, &mut q));
+    assert!((x, p) == (y, q), "lookup8 {x} {y}");
+    let mut full = [9u32; 9];
+    let z = (a.lookup)(img, k.holder, k.slot, &mut full);
+    if z >= 0 {
+        assert!((x, p) == (z, full), "lookup8 {x}, lookup {z}");
+    } else if z < -7 && z != -35 {
+        *seen.eight.entry(x).or_insert(0) += 1;
+    }
 }

@@ -11,13 +11,16 @@ mod compare;
 
 type Scan = fn(&[u8], &mut [u32], u16, u16, u32, u32, u32, u32) -> i64;
 
+type Lookup = fn(&[u8], u16, u16, &mut [u32; 9]) -> i64;
+
 /// One implementation of the jobs; an answer -n is question n's no.
 struct Jobs {
     name: &'static str,
     write: fn(&[Admission], u32, &mut [u8]) -> i64,
     check: fn(&[u8]) -> i64,
     lift: fn(&[u8]) -> i64,
-    lookup: fn(&[u8], u16, u16, &mut [u32; 9]) -> i64,
+    lookup: Lookup,
+    lookup8: Lookup,
     count: fn(&[u8], Rect) -> i64,
     list: fn(&[u8], Rect, &mut [u32]) -> i64,
     find: fn(&[u8], u32) -> i64,
@@ -28,11 +31,20 @@ struct Jobs {
     admission_of: fn(u32) -> i64,
 }
 
-fn answer<T>(r: Result<T, reference::No>, f: impl Fn(T) -> i64) -> i64 {
+fn answer<T>(r: Result<T, reference::No>, f: impl FnOnce(T) -> i64) -> i64 {
     match r {
         Ok(x) => f(x),
         Err(reference::No(n)) => -(n as i64),
     }
+}
+
+/// What a lookup found, with the nine places filled where the admission is listed.
+fn found(r: Result<Option<reference::Found>, reference::No>, o: &mut [u32; 9]) -> i64 {
+    answer(r, |f| f.map_or(0, |f| {
+        o[0] = f.rank;
+        o[1..].copy_from_slice(&f.pages);
+        1
+    }))
 }
 
 fn hand_written() -> Jobs {
@@ -41,15 +53,8 @@ fn hand_written() -> Jobs {
         write: |l, lift, o| answer(reference::write(l, lift, o), |x| x as i64),
         check: |i| answer(reference::check(i), |x| x as i64),
         lift: |i| answer(reference::lift(i), |x| x as i64),
-        lookup: |i, h, s, o| match reference::lookup(i, h, s) {
-            Ok(Some(f)) => {
-                o[0] = f.rank;
-                o[1..].copy_from_slice(&f.pages);
-                1
-            }
-            Ok(None) => 0,
-            Err(reference::No(n)) => -(n as i64),
-        },
+        lookup: |i, h, s, o| found(reference::lookup(i, h, s), o),
+        lookup8: |i, h, s, o| found(reference::lookup8(i, h, s), o),
         count: |i, r| answer(reference::count(i, r), |x| x as i64),
         list: |i, r, k| answer(reference::list(i, r, k), |x| x as i64),
         find: |i, r| answer(reference::find_by_rank(i, r), |(h, s)| (h as i64) << 16 | s as i64),
@@ -69,6 +74,7 @@ extern "C" {
     fn lpt_check(img: *const u8, len: usize) -> i64;
     fn lpt_lift(img: *const u8, len: usize) -> i64;
     fn lpt_lookup(img: *const u8, len: usize, holder: u16, slot: u16, out: *mut u32) -> i64;
+    fn lpt_lookup8(img: *const u8, len: usize, holder: u16, slot: u16, out: *mut u32) -> i64;
     fn lpt_count(img: *const u8, len: usize, h0: u16, h1: u16, s0: u16, s1: u16) -> i64;
     fn lpt_list(img: *const u8, len: usize, h0: u16, h1: u16, s0: u16, s1: u16, keys: *mut u32, places: usize) -> i64;
     fn lpt_find(img: *const u8, len: usize, rank: u32) -> i64;
@@ -85,6 +91,7 @@ fn verified() -> Jobs {
         check: |i| unsafe { lpt_check(i.as_ptr(), i.len()) },
         lift: |i| unsafe { lpt_lift(i.as_ptr(), i.len()) },
         lookup: |i, h, s, o| unsafe { lpt_lookup(i.as_ptr(), i.len(), h, s, o.as_mut_ptr()) },
+        lookup8: |i, h, s, o| unsafe { lpt_lookup8(i.as_ptr(), i.len(), h, s, o.as_mut_ptr()) },
         count: |i, q| unsafe { lpt_count(i.as_ptr(), i.len(), q.h0, q.h1, q.s0, q.s1) },
         list: |i, q, k| unsafe { lpt_list(i.as_ptr(), i.len(), q.h0, q.h1, q.s0, q.s1, k.as_mut_ptr(), k.len()) },
         find: |i, r| unsafe { lpt_find(i.as_ptr(), i.len(), r) },
@@ -248,8 +255,8 @@ fn rows(d: &'static Data, both: &[Jobs]) -> Vec<Row> {
     add("check", &|j| { let f = j.check; case(j.name, 1, move || f(bb(img)) as u64) },
         Some(case("sorted array", 1, move || bb(&d.keys).windows(2).all(|w| w[0] < w[1]) as u64)));
     add("lift", &|j| { let f = j.lift; case(j.name, 1, move || f(bb(img)) as u64) }, None);
-    for (op, qs) in [("lookup, listed", &d.hits), ("lookup, absent", &d.misses)] {
-        add(op, &|j| { let f = j.lookup; case(j.name, 32, move || { let mut o = [0; 9];
+    for (op, qs, eight) in [("lookup, listed", &d.hits, false), ("lookup, absent", &d.misses, false), ("by eight pages, listed", &d.hits, true), ("by eight pages, absent", &d.misses, true)] {
+        add(op, &|j| { let f = if eight { j.lookup8 } else { j.lookup }; case(j.name, 32, move || { let mut o = [0; 9];
             qs[..32].iter().map(|&k| { let (h, s) = unweave(k); f(bb(img), h, s, &mut o) as u64 + o[0] as u64 }).sum() }) },
             Some(case("sorted array", 1024, move || qs.iter().map(|k| bb(&d.keys).binary_search(k).is_ok() as u64).sum())));
     }

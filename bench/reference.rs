@@ -407,6 +407,49 @@ pub fn lookup(img: &[u8], holder: u16, slot: u16) -> Result<Option<Found>, No> {
     Ok(walk(img, &h, weave(holder, slot)))
 }
 
+// ----------------------------------------------------------------------------- eight-page lookup
+
+/// The last page of the band, in page order, whose T is at or below the root (27), and its roots (9).
+#[inline]
+fn taken(img: &[u8], h: &Head, band: usize, root: u32) -> Result<(u32, u32), No> {
+    // T need not rise here, so that every later page's is read
+    let (mut no, mut next) = (h.first[band] + h.pages[band] - 1, h.roots[band]);
+    loop {
+        let t = t_of(img, no);
+        if t <= root {
+            let r = next.wrapping_sub(t);
+            return if r.wrapping_sub(1) < 60 { Ok((no, r)) } else { Err(No(9)) };
+        }
+        if no == h.first[band] {
+            return Err(No(27));
+        }
+        no -= 1;
+        next = t;
+    }
+}
+
+/// Questions 1 to 7, then one page a band.
+pub fn lookup8(img: &[u8], holder: u16, slot: u16) -> Result<Option<Found>, No> {
+    let h = head(img)?;
+    if h.keys == 0 {
+        return Ok(None);
+    }
+    let key = weave(holder, slot);
+    let mut f = Found { rank: 0, pages: [0; 8] };
+    for band in 0..BANDS {
+        let (no, r) = taken(img, &h, band, f.rank)?;
+        let p = Page::load(page_bytes(img, no));
+        let s = shape(&p, r)?;
+        let Some(o) = descend(&p, r, s.e4 - r, f.rank - t_of(img, no), key >> (28 - 4 * band) & 15) else { return Ok(None) };
+        f.rank = b_of(img, no) + o;
+        f.pages[band] = no;
+        if f.rank >= if band < 7 { h.roots[band + 1] } else { h.keys } {
+            return Err(No(28));
+        }
+    }
+    Ok(Some(f))
+}
+
 // -------------------------------------------------------------------------------- find by rank
 
 fn climb(img: &[u8], h: &Head, rank: u32) -> u32 {
