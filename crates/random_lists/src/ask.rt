@@ -1,4 +1,5 @@
 // Lookup, count, listing and finding by rank against the plain reader.
+use crate::eight::ask_sound;
 use crate::tally::COUNTS;
 use crate::tally::FINDS;
 use crate::tally::LISTINGS;
@@ -102,10 +103,10 @@ pub fn at_rank(image: &[u8], rank: usize) -> Admission {
     }
 }
 
-// A rank, and lookup of its admission and of two beside it.
+// A rank, and lookup of its admission and of two beside it; in an empty list lookup of any.
 fn ask_rank(tally: Tally, keys: &[u32], image: &[u8], rank: usize) -> Tally {
     if keys.len() <= rank {
-        return tally;
+        return ask_sound(tally, image, 0, 0);
     }
     let a = at_rank(image, rank);
     let holder = a.holder;
@@ -113,7 +114,10 @@ fn ask_rank(tally: Tally, keys: &[u32], image: &[u8], rank: usize) -> Tally {
     let mut t = expect(tally, FINDS, testing::key_of(holder, slot) == keys[rank]);
     t = expect(t, LOOKUPS, is_right(keys, image, holder, slot));
     t = expect(t, LOOKUPS, is_right(keys, image, holder ^ 1, slot));
-    expect(t, LOOKUPS, is_right(keys, image, holder, slot ^ 4))
+    t = expect(t, LOOKUPS, is_right(keys, image, holder, slot ^ 4));
+    t = ask_sound(t, image, holder, slot);
+    t = ask_sound(t, image, holder ^ 1, slot);
+    ask_sound(t, image, holder, slot ^ 4)
 }
 
 // A rectangle between two ranks' admissions, where these are its corners.

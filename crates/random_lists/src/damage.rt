@@ -1,7 +1,9 @@
 // Damaged images. One that is still accepted must be the exact image of its list and its lift, and is counted by what it is: the same list
-// and lift, where two pages alike were exchanged, the same list for another lift, or another list.
+// and lift, where two pages alike were exchanged, the same list for another lift, or another list. In every one the eight-page lookup must do
+// what its steps say.
 use crate::ask::member_count;
 use crate::ask::pick;
+use crate::eight;
 use crate::tally::DAMAGED;
 use crate::tally::OTHER_LIFT;
 use crate::tally::OTHER_LIST;
@@ -15,6 +17,12 @@ use testing::starts_with;
 use testing::starts_with_bytes;
 use testing::whole_square;
 use writer::Written;
+
+// Of the sound image: its lift, and the rank of an admission that is looked up in the damaged one.
+pub struct Sound {
+    pub lift: u32,
+    pub rank: usize,
+}
 
 // The writer's length, or 0 where it refuses.
 pub fn length_of(written: Written) -> usize {
@@ -65,23 +73,38 @@ fn judge_accepted(tally: Tally, image: &[u8], keys: &[u32], lift: u32) -> Tally 
     note(t, kind(listed, keys, lift_of(image) == lift))
 }
 
-// The judgement of a damaged image of the keys for a lift.
-fn judge(tally: Tally, image: &[u8], keys: &[u32], lift: u32) -> Tally {
+// The judgement of a damaged image of the keys.
+fn judge(tally: Tally, image: &[u8], keys: &[u32], sound: Sound) -> Tally {
+    let t = eight::ask_damaged(tally, image, keys, sound.rank);
     match checker::check(image) {
-        Checked::Refused(n) => note(expect(tally, DAMAGED, true), n as usize),
-        Checked::Accepted(_) => judge_accepted(tally, image, keys, lift),
+        Checked::Refused(n) => note(expect(t, DAMAGED, true), n as usize),
+        Checked::Accepted(_) => judge_accepted(t, image, keys, sound.lift),
     }
 }
 
+// Some bits of a byte changed.
+pub fn flip(image: &mut [u8], at: usize, by: u8) {
+    if image.len() <= at {
+        return;
+    }
+    image[at] = image[at] ^ by;
+}
+
 // The image with byte `at` changed, judged; the byte is changed back.
-fn change(tally: Tally, image: &mut [u8], keys: &[u32], lift: u32, at: usize, by: u8) -> Tally {
+pub fn change(
+    tally: Tally,
+    image: &mut [u8],
+    keys: &[u32],
+    sound: Sound,
+    at: usize,
+    by: u8,
+) -> Tally {
     if image.len() <= at {
         return tally;
     }
-    let before = image[at];
-    image[at] = before ^ by;
-    let t = judge(tally, image, keys, lift);
-    image[at] = before;
+    flip(image, at, by);
+    let t = judge(tally, image, keys, sound);
+    flip(image, at, by);
     t
 }
 
@@ -99,7 +122,7 @@ fn exchange(image: &mut [u8], a: usize, b: usize) {
 }
 
 // The place of a byte of a page.
-fn place(page: usize, byte: usize) -> usize {
+pub fn place(page: usize, byte: usize) -> usize {
     64 * (page % 65536) + byte % 64
 }
 
@@ -113,26 +136,33 @@ fn swap_pages(image: &mut [u8], a: usize, b: usize) {
 }
 
 // Two pages exchanged, judged, and exchanged again.
-fn swap(tally: Tally, image: &mut [u8], keys: &[u32], lift: u32, a: usize, b: usize) -> Tally {
+pub fn swap(
+    tally: Tally,
+    image: &mut [u8],
+    keys: &[u32],
+    sound: Sound,
+    a: usize,
+    b: usize,
+) -> Tally {
     if a == b {
         return tally;
     }
     swap_pages(image, a, b);
-    let t = judge(tally, image, keys, lift);
+    let t = judge(tally, image, keys, sound);
     swap_pages(image, a, b);
     t
 }
 
 // The first bytes only.
-fn truncate(tally: Tally, image: &[u8], keys: &[u32], lift: u32, size: usize) -> Tally {
+fn truncate(tally: Tally, image: &[u8], keys: &[u32], sound: Sound, size: usize) -> Tally {
     if image.len() <= size {
         return tally;
     }
-    judge(tally, &image[0..size], keys, lift)
+    judge(tally, &image[0..size], keys, sound)
 }
 
 // The bit of a byte.
-fn bit(random: Random) -> u8 {
+pub fn bit(random: Random) -> u8 {
     let bits: [u8; 8] = [1, 2, 4, 8, 16, 32, 64, 128];
     bits[pick(random, 8) % 8]
 }
@@ -149,18 +179,18 @@ fn places(random: Random, bytes: usize, page: usize) -> [usize; 5] {
 }
 
 // Each of the bytes changed in turn.
-fn change_each(
+pub fn change_each(
     tally: Tally,
     image: &mut [u8],
     keys: &[u32],
-    lift: u32,
+    sound: Sound,
     at: [usize; 5],
     by: [u8; 5],
 ) -> Tally {
     let mut t = tally;
     let mut i: usize = 0;
     while i < 5 {
-        t = change(t, image, keys, lift, at[i], by[i]);
+        t = change(t, image, keys, sound, at[i], by[i]);
         i += 1;
     }
     t
@@ -171,7 +201,7 @@ fn damage_at(
     tally: Tally,
     image: &mut [u8],
     keys: &[u32],
-    lift: u32,
+    sound: Sound,
     random: Random,
     other: Random,
 ) -> Tally {
@@ -179,9 +209,9 @@ fn damage_at(
     let page = pick(random, bytes / 64);
     let by = bit(other);
     let at = places(random, bytes, page);
-    let mut t = change_each(tally, image, keys, lift, at, [by, by, 1, 1, by]);
-    t = swap(t, image, keys, lift, page, pick(other, bytes / 64));
-    truncate(t, image, keys, lift, pick(other, bytes))
+    let mut t = change_each(tally, image, keys, sound, at, [by, by, 1, 1, by]);
+    t = swap(t, image, keys, sound, page, pick(other, bytes / 64));
+    truncate(t, image, keys, sound, pick(other, bytes))
 }
 
 // 40 random places of the image of the keys for a lift.
@@ -192,7 +222,8 @@ pub fn damage(tally: Tally, image: &mut [u8], keys: &[u32], lift: u32, seed: Ran
     while i < 40 {
         random = testing::next(random);
         let other = testing::next(random);
-        t = damage_at(t, image, keys, lift, random, other);
+        let rank = pick(other, keys.len());
+        t = damage_at(t, image, keys, Sound { lift, rank }, random, other);
         random = testing::next(other);
         i += 1;
     }

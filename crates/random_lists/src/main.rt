@@ -1,14 +1,19 @@
 // A test: lists of many shapes from a generator with a fixed seed are written for several lifts, read back by every job, and held against the plain
 // reader of a sorted array, and scans against a plain rule of the gate, with lockouts played to their end; their images are damaged, and one that is
-// still accepted must be the exact image of its list. Prints what was compared, and the differences.
+// still accepted must be the exact image of its list, and the eight-page lookup must do on all of them what its steps say. Prints what was compared,
+// and the differences.
 mod ask;
 mod cards;
 mod damage;
+mod eight;
 mod history;
 mod pairs;
+mod path;
 mod patience;
+mod plain;
 mod rule;
 mod scans;
+mod steps;
 mod tally;
 mod trial;
 
@@ -27,8 +32,9 @@ fn read(tally: Tally, keys: &[u32], lift: u32, image: &[u8], seed: Random) -> Ta
 
 // The same, and its damaged images.
 fn compare(tally: Tally, keys: &[u32], lift: u32, image: &mut [u8], seed: Random) -> Tally {
-    let t = read(tally, keys, lift, image, seed);
-    damage::damage(t, image, keys, lift, seed)
+    let mut t = read(tally, keys, lift, image, seed);
+    t = damage::damage(t, image, keys, lift, seed);
+    path::damage(t, image, keys, lift, seed)
 }
 
 // Writes the image of the keys for a lift, 0 for version 1, and compares.
@@ -86,7 +92,7 @@ fn sizes(name: &[u8], keys: &[u32], n: usize, seed: Random) -> u32 {
 }
 
 fn sum(a: u32, b: u32) -> u32 {
-    (a % 65536) + (b % 65536)
+    (a % 1000000000) + (b % 1000000000)
 }
 
 // The differences of the lists of spaced keys.
@@ -111,8 +117,16 @@ fn clustered_lists() -> u32 {
     )
 }
 
+// The differences of the list without keys.
+fn empty_list() -> u32 {
+    let keys = [0u32; 1];
+    let t = list(tally::none(), &keys, 0, 500, Random { state: 9 });
+    tally::say(t, b"no keys");
+    tally::differences(t)
+}
+
 fn main() {
-    let d = sum(spaced_lists(), clustered_lists());
+    let d = sum(sum(spaced_lists(), clustered_lists()), empty_list());
     io::print_decimal(1, d as u64);
     io::write_all(1, b" differences\n");
 }

@@ -3,49 +3,61 @@
 use testing::line_end;
 use testing::one_more;
 
-// Places 1 to 40 count the damaged images by the number that refused them; the places after them have the names below.
+// Places 1 to 40 count the damaged images by the number that refused them; the places after them have the names below. Places 1 to 40 after
+// EIGHT_REFUSED count the eight-page lookups in damaged images by the number that refused them.
 pub struct Tally {
     pub counts: [u32; PLACES],
 }
 
-const PLACES: usize = 58;
+const PLACES: usize = 103;
 
 pub const LISTS: usize = 41;
 
 pub const LOOKUPS: usize = 42;
 
-pub const COUNTS: usize = 43;
+// Eight-page lookups and full lookups in a sound image, each held against the steps.
+pub const EIGHT: usize = 43;
 
-pub const LISTINGS: usize = 44;
+pub const COUNTS: usize = 44;
 
-pub const FINDS: usize = 45;
+pub const LISTINGS: usize = 45;
 
-pub const SCANS: usize = 46;
+pub const FINDS: usize = 46;
+
+pub const SCANS: usize = 47;
 
 // Scans refused by another of the holder's records.
-pub const ANOTHER: usize = 47;
+pub const ANOTHER: usize = 48;
 
 // Lockouts that a trial went through, and the scans meanwhile.
-pub const LOCKOUTS: usize = 48;
+pub const LOCKOUTS: usize = 49;
 
-pub const REFUSED_BETWEEN: usize = 49;
+pub const REFUSED_BETWEEN: usize = 50;
 
 // Of the refused ones, the trial's holder's own that got 26.
-pub const TRIED_AGAIN: usize = 50;
+pub const TRIED_AGAIN: usize = 51;
 
-pub const OPENED_BETWEEN: usize = 51;
+pub const OPENED_BETWEEN: usize = 52;
 
-pub const PAIRS: usize = 52;
+pub const PAIRS: usize = 53;
 
-pub const DAMAGED: usize = 53;
+pub const DAMAGED: usize = 54;
 
-pub const SAME: usize = 54;
+pub const SAME: usize = 55;
 
-pub const OTHER_LIFT: usize = 55;
+pub const OTHER_LIFT: usize = 56;
 
-pub const OTHER_LIST: usize = 56;
+pub const OTHER_LIST: usize = 57;
 
-const DIFFERENCES: usize = 57;
+pub const EIGHT_DAMAGED: usize = 58;
+
+pub const EIGHT_LISTED: usize = 59;
+
+pub const EIGHT_ABSENT: usize = 60;
+
+const DIFFERENCES: usize = 61;
+
+pub const EIGHT_REFUSED: usize = 62;
 
 pub fn none() -> Tally {
     Tally {
@@ -107,11 +119,22 @@ fn say_count(count: u32, text: &[u8], place: usize) -> usize {
     end
 }
 
+// The counts from place `first` up to `end`, each with its line of the text.
+fn say_counts(tally: Tally, first: usize, end: usize, text: &[u8]) {
+    let mut place: usize = 0;
+    let mut i = first;
+    while i < end {
+        place = say_count(count_of(tally, i), text, place);
+        i += 1;
+    }
+}
+
 // The counts from LISTS to OTHER_LIST.
-fn say_counts(tally: Tally) {
+fn say_lists(tally: Tally) {
     let text: &[u8] = b"\
         lists\n\
         lookups\n\
+        lookups in full and by eight pages, as by the steps\n\
         counts\n\
         listings\n\
         found by rank\n\
@@ -126,13 +149,21 @@ fn say_counts(tally: Tally) {
         accepted, with the same list and lift\n\
         accepted, with the same list for another lift\n\
         accepted, with another list\n";
-    let counts = tally.counts;
-    let mut place: usize = 0;
-    let mut i: usize = LISTS;
-    while i <= OTHER_LIST {
-        place = say_count(counts[i], text, place);
-        i += 1;
-    }
+    say_counts(tally, LISTS, EIGHT_DAMAGED, text);
+}
+
+// The counts of eight-page lookups in damaged images.
+fn say_eight(tally: Tally) {
+    let text: &[u8] = b"\
+        eight-page lookups in damaged images\n\
+        listed\n\
+        absent\n";
+    say_counts(tally, EIGHT_DAMAGED, DIFFERENCES, text);
+}
+
+// How many the question of a number refused, where the table is at places 1 to 40 after `from`.
+fn refusals(tally: Tally, from: usize, n: usize) -> u32 {
+    count_of(tally, from % PLACES + n % PLACES)
 }
 
 fn say_refused(n: usize, count: u32) {
@@ -147,21 +178,21 @@ fn say_refused(n: usize, count: u32) {
 }
 
 // The table of refusals.
-fn say_refusals(tally: Tally) {
-    let counts = tally.counts;
+fn say_refusals(tally: Tally, from: usize) {
     let mut n: usize = 1;
     while n < 41 {
-        say_refused(n, counts[n]);
+        say_refused(n, refusals(tally, from, n));
         n += 1;
     }
 }
 
 // The lines of a shape.
 pub fn say(tally: Tally, name: &[u8]) {
-    let counts = tally.counts;
     io::write_all(1, name);
     io::write_all(1, b":\n");
-    say_counts(tally);
-    say_refusals(tally);
-    say_count(counts[DIFFERENCES], b"differences\n", 0);
+    say_lists(tally);
+    say_refusals(tally, 0);
+    say_eight(tally);
+    say_refusals(tally, EIGHT_REFUSED);
+    say_count(differences(tally), b"differences\n", 0);
 }

@@ -20,4 +20,5 @@ pub use sorted::is_inside;
 pub use sorted::key_of;
 pub use sorted::rank_of;
 pub use sorted::rectangle;
+pub use sorted::slot_of;
 pub use sorted::whole_square;

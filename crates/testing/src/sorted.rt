@@ -48,10 +48,15 @@ pub fn holder_of(key: u32) -> u32 {
     even_bits(key / 2)
 }
 
+// The slot of a key.
+pub fn slot_of(key: u32) -> u32 {
+    even_bits(key)
+}
+
 // Whether the key's holder and slot lie in the rectangle.
 pub fn is_inside(key: u32, rectangle: Rectangle) -> bool {
     let holder = holder_of(key);
-    let slot = even_bits(key);
+    let slot = slot_of(key);
     let holders = rectangle.holders;
     let slots = rectangle.slots;
     if holder < holders.low as u32 {

@@ -7,10 +7,10 @@ use Rattle.random_lists.proofs.damage.change_each.Statement.{statement}
 use Rattle.random_lists.proofs.damage.change_each.Tie as tie
 
 abbrev Inv-loop : tie.InvT-loop
-Inv-loop image₀ keys lift at by t₀ i₀ image t i = (i ≤ 5) × (length image ≡ length image₀)
+Inv-loop image₀ keys sound at by t₀ i₀ image t i = (i ≤ 5) × (length image ≡ length image₀)
 
 abbrev μ-loop : tie.MeasureT-loop
-μ-loop image₀ keys lift at by t₀ i₀ image t i = 5 - i
+μ-loop image₀ keys sound at by t₀ i₀ image t i = 5 - i
 
 pub change-each-spec : {M : Type 1} → statement M
 change-each-spec =

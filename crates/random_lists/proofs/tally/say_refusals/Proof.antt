@@ -5,12 +5,12 @@ use Rattle.random_lists.proofs.tally.say_refusals.Statement.{statement}
 use Rattle.random_lists.proofs.tally.say_refusals.Tie as tie
 
 abbrev Inv-loop : tie.InvT-loop
-Inv-loop counts n₀ n = (n ≤ 41)
+Inv-loop tally from n₀ n = (n ≤ 41)
 
 abbrev μ-loop : tie.MeasureT-loop
-μ-loop counts n₀ n = 41 - n
+μ-loop tally from n₀ n = 41 - n
 
 pub say-refusals-spec : {M : Type 1} → statement M
 say-refusals-spec =
     tie.close
-    (tie.spec Inv-loop μ-loop (λ c. search needs) (λ c. search needs) (λ c. search needs) (λ c κs. search needs) (λ c. search needs) (λ c. search needs) (λ c. search needs) (λ c. search needs))
+    (tie.spec Inv-loop μ-loop (λ c. search needs) (λ c κs. search needs) (λ c κs. search needs) (λ c. search needs) (λ c. search needs) (λ c. search needs) (λ c. search needs))

@@ -1,0 +1,94 @@
+// The eight-page lookup against the plain reader of its steps: the whole answer, page numbers too.
+use crate::steps;
+use crate::tally::EIGHT;
+use crate::tally::EIGHT_ABSENT;
+use crate::tally::EIGHT_DAMAGED;
+use crate::tally::EIGHT_LISTED;
+use crate::tally::EIGHT_REFUSED;
+use crate::tally::Tally;
+use crate::tally::expect;
+use crate::tally::note;
+use paged_lookup::Found;
+use paged_lookup::Presence;
+use testing::holder_of;
+use testing::slot_of;
+use testing::starts_with;
+
+// A number for each answer.
+fn code(answer: Presence) -> u64 {
+    match answer {
+        Presence::Refused(n) => n as u64,
+        Presence::Absent => 256,
+        Presence::Listed(rank) => 257 + rank as u64,
+    }
+}
+
+fn are_same(a: Found, b: Found) -> bool {
+    let answer = a.answer;
+    let other = b.answer;
+    let pages = a.pages;
+    let others = b.pages;
+    code(answer) == code(other) && starts_with(&pages, &others)
+}
+
+// A lookup in a sound image, where the full lookup must give the same too.
+pub fn ask_sound(tally: Tally, image: &[u8], holder: u16, slot: u16) -> Tally {
+    let plain = steps::lookup(image, holder, slot);
+    let t = expect(
+        tally,
+        EIGHT,
+        are_same(paged_lookup::lookup(image, holder, slot), plain),
+    );
+    expect(
+        t,
+        EIGHT,
+        are_same(query::lookup(image, holder, slot), plain),
+    )
+}
+
+// The place of the tally where an answer in a damaged image is counted.
+fn place_of(answer: Presence) -> usize {
+    match answer {
+        Presence::Refused(n) => EIGHT_REFUSED + n as usize,
+        Presence::Absent => EIGHT_ABSENT,
+        Presence::Listed(_) => EIGHT_LISTED,
+    }
+}
+
+// A lookup in a damaged image.
+fn ask(tally: Tally, image: &[u8], holder: u16, slot: u16) -> Tally {
+    let plain = steps::lookup(image, holder, slot);
+    let found = paged_lookup::lookup(image, holder, slot);
+    let t = expect(tally, EIGHT_DAMAGED, are_same(found, plain));
+    let answer = plain.answer;
+    note(t, place_of(answer))
+}
+
+// The key of a rank, or 0 where there is none.
+pub fn key_at(keys: &[u32], rank: usize) -> u32 {
+    if rank < keys.len() {
+        return keys[rank];
+    }
+    0
+}
+
+// The holder and the slot of a key.
+pub fn key_holder(key: u32) -> u16 {
+    (holder_of(key) % 65536) as u16
+}
+
+pub fn key_slot(key: u32) -> u16 {
+    (slot_of(key) % 65536) as u16
+}
+
+// Lookups in a damaged image of the keys: of a rank's admission, of two beside it, which are often not listed, and of one of a smaller rank.
+pub fn ask_damaged(tally: Tally, image: &[u8], keys: &[u32], rank: usize) -> Tally {
+    let key = key_at(keys, rank);
+    let holder = key_holder(key);
+    let slot = key_slot(key);
+    let smaller = key_at(keys, rank / 8);
+    let mut t = ask(tally, image, holder, slot);
+    t = ask(t, image, holder ^ 1, slot);
+    t = ask(t, image, holder, slot ^ 4);
+    ask(t, image, key_holder(smaller), key_slot(smaller))
+}
