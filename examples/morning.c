@@ -97,6 +97,9 @@ int main(void)
         for (int i = 1; i <= 8; i++)
             printf(" %lu", (unsigned long)found[i]);
         printf("\n");
+        uint32_t eight[9];
+        int same = lpt_lookup8(image, (size_t)size, 1007, MORNING, eight) == 1 && memcmp(found, eight, sizeof eight) == 0;
+        printf("the eight pages alone say %s\n", same ? "the same" : "otherwise");
         int64_t back = lpt_find(image, (size_t)size, found[0]);
         printf("found by rank: holder %lld, slot %lld\n", (long long)(back / 65536), (long long)(back % 65536));
     }

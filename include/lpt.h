@@ -13,7 +13,8 @@
  * used: calls on different buffers may run at the same time. Pointers are not null, also where a length
  * is 0, and a buffer that is written must not overlap one that is read.
  *
- * Every function that takes an image checks all of it first; there is no need to call lpt_check before.
+ * Every function that takes an image checks all of it first, so that there is no need to call lpt_check before;
+ * lpt_lookup8 alone checks the header and the eight pages that it reads, and no more.
  *
  * Stack, measured on 4,096 random admissions on x86-64: lpt_write 17,088 bytes, lpt_write_keys 16,928, lpt_list
  * 2,872, lpt_count 2,840, lpt_scan 2,248, lpt_lookup 960, lpt_find 560, lpt_key 544, lpt_check and lpt_lift 320,
@@ -31,9 +32,10 @@ extern "C" {
 
 /*
  * The version of this interface: one more whenever a declaration here changes, one is added, or a function answers
- * otherwise than before. Since 5, lpt_scan asks 25 and 26 of the holder, not of the one admission.
+ * otherwise than before. Since 5, lpt_scan asks 25 and 26 of the holder, not of the one admission; since 6 there is
+ * lpt_lookup8.
  */
-#define LPT_API_VERSION 5
+#define LPT_API_VERSION 6
 
 /* An admission: a holder and a half-day slot. */
 typedef struct {
@@ -70,6 +72,10 @@ typedef struct {
 #define LPT_NO_PADDING 11     /* a pair after a page's last node is not 00 */
 #define LPT_NO_PACKING 12     /* a page was started before it had to be */
 #define LPT_NO_LINKS 13       /* a band's out-links do not fit the band below, or the key count */
+
+/* Refusals of the eight-page lookup, by lpt_lookup8, beside 1 to 7, 9, 10 and 11: they come of damage. */
+#define LPT_NO_PAGE 27        /* no page of a band has a T at or below the root's number */
+#define LPT_NO_NUMBER 28      /* the number out of a band is not below the next band's root count, or the key count */
 
 /* Refusals of a list, by lpt_write and lpt_write_keys, after LPT_NO_LIFT. Number 16 is not used. */
 #define LPT_NO_MORE 14        /* more than 4,096 admissions */
@@ -120,6 +126,14 @@ int64_t lpt_lift(const uint8_t *img, size_t len);
  * eight pages on its path, or returns 0 where it is not listed and leaves out as it was. Refuses with 1 to 13.
  */
 int64_t lpt_lookup(const uint8_t *img, size_t len, uint16_t holder, uint16_t slot, uint32_t out[9]);
+
+/*
+ * Looks an admission up in one page a band: it asks 1 to 7 of the header, and then reads T of the pages of each band
+ * and eight pages. On an image that lpt_check accepts it answers just as lpt_lookup does, in a fraction of the time;
+ * damage beside its path it does not see. Returns 1 and fills out, or 0 and leaves out as it was, as lpt_lookup.
+ * Refuses with 1 to 7 (35 among them), and in each band with 27, 9, 10, 11, and 28 on leaving it.
+ */
+int64_t lpt_lookup8(const uint8_t *img, size_t len, uint16_t holder, uint16_t slot, uint32_t out[9]);
 
 /*
  * Counts the admissions with holder h0 to h1 and slot s0 to s1, ends included. Returns their number.

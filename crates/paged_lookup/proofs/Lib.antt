@@ -12,5 +12,6 @@ pub mod EightPages
 -- the code
 pub mod Sides
 pub mod Following
+pub mod Finding
 pub mod Steps
 pub mod Walking

@@ -20,7 +20,7 @@ pub record Agree (x y : List ℕ) (page : ℕ → ℕ) : Type 0 where
   pub T-is : (b i : ℕ) → 1 ≤ b → b ≤ 8 → i < pageCount x b → pageT y b i ≡ pageT x b i
   pub page-is : (b : ℕ) → 1 ≤ b → b ≤ 8 → bytesOfPage y b (page b) ≡ bytesOfPage x b (page b)
 
--- one page of each band with which these bytes give the outcome: any others that agree with them so far have the same
+-- there is one page of each band, by its index, such that any other bytes which agree so far have the same outcome
 pub record Reads (x : List ℕ) (holder slot : ℕ) : Type 0 where
   pub page : ℕ → ℕ
   pub in-band : (b : ℕ) → 1 ≤ pageCount x b → page b < pageCount x b

@@ -36,7 +36,7 @@ linked b off = off
 unfoldable pub hasPage : List ℕ → ℕ → ℕ → Bool
 hasPage img b root = not (every (λ i. ltb root (pageT img b i)) (upTo (pageCount img b)))
 
--- 27, then 9 to 11 of the last page whose T is not
+-- 27, then 9 to 11 of the last page whose T is not above it
 unfoldable pub rootQuestions : List ℕ → ℕ → ℕ → List Question
 rootQuestions img b root = let i = pageWith img b root in (27, hasPage img b root) ∷ nodeQuestions (pageRoots img b i) (pagePairs img b i)
 

@@ -5,7 +5,8 @@ use native.Mathlib.Omega.{arith}
 use borrow.Author.Needs.{needs}
 use lib.ListN.{length}
 use Rattle.checker.proofs.Pages.{Nine, nine, not-nine}
-use Rattle.paged_lookup.proofs.Steps.{PageFound, band-fits, none-found, index-in, found, step-none, step-nine, root-in, step-left}
+use Rattle.paged_lookup.proofs.Finding.{PageFound, band-fits, none-found, index-in, found}
+use Rattle.paged_lookup.proofs.Steps.{step-none, step-nine, root-in, step-left}
 use Rattle.paged_lookup.proofs.band.through_judged.Statement.{statement}
 use Rattle.paged_lookup.proofs.band.through_judged.Tie as tie
 
