@@ -93,6 +93,12 @@ module _ {A : Type 0} where
   all-every f [] h = refl
   all-every f (x ∷ l) h = and-both (h .0) (all-every f l (h .1))
 
+  -- tests that agree on a list give the same
+  pub every-same : (f g : A → Bool) (l : List A) → All (λ x. f x ≡ g x) l → every f l ≡ every g l
+  unfolding every
+  every-same f g [] h = refl
+  every-same f g (x ∷ l) h = ap₂ _&&_ (h .0) (every-same f g l (h .1))
+
   -- two lists joined, told apart by the first one's length
   pub append-same : (a b c d : List A) → length a ≡ length c → a ++ b ≡ c ++ d → (a ≡ c) × (b ≡ d)
   append-same [] b [] d n e = (refl, e)
@@ -168,6 +174,13 @@ all-upTo P n f = all-numbers P 0 n (λ j h k. f j (omega arith))
 pub upTo-all : (P : ℕ → Type 0) (n : ℕ) → All P (upTo n) → (j : ℕ) → j < n → P j
 unfolding upTo
 upTo-all P n a j h = numbers-all P 0 n a j (omega arith) (omega arith)
+
+-- element i of a mapped run of numbers
+pub map-at : {A : Type 0} (f : ℕ → A) (d : A) (s n i : ℕ) → i < n → getD (map f (numbersFrom s n)) i d ≡ f (s + i)
+unfolding numbersFrom
+map-at f d s zero i h = absurd (omega arith)
+map-at f d s (suc n) zero h = let e : s ≡ s + 0 = omega arith in ap f e
+map-at f d s (suc n) (suc i) h = let e : suc s + i ≡ s + suc i = omega arith in map-at f d (suc s) n i (omega arith) ∙ ap f e
 
 pub numbers-split : (i n m : ℕ) → numbersFrom i (n + m) ≡ numbersFrom i n ++ numbersFrom (i + n) m
 unfolding numbersFrom

@@ -1,15 +1,13 @@
 -- Places in a page's row of pairs, and indices in a band's levels.
 -- Assumes nothing.
-use mathlib.Core.Bool.{Bool, true, false}
 use mathlib.Core.List.{List, [], _∷_, _++_, map, flatMap, flatten, append-assoc}
 use mathlib.Core.Path.{_≡_, refl, sym, ap, ap₂, _∙_}
 use Prim.Native.Nat.{ℕ, zero, suc, _+_, _*_, _≤_, _<_}
 use native.Mathlib.Nat.{add-zero, zero-add}
 use native.Mathlib.Omega.{arith}
-use native.Mathlib.Decide.{decLt}
 use lib.ListN.{length, getD, take, drop, length-append, List·getD-append}
 use lib.Seq.{getD-append-add, take-append-add, take-append-le}
-use Rattle.format.specs.Seq.{lastBelow, numbersFrom, total}
+use Rattle.format.specs.Seq.{numbersFrom, total}
 use Rattle.format.specs.Trie.{childAt, onBits}
 use Rattle.format.specs.Page.{levelsIn, nodeCount}
 use Rattle.format.specs.Place.{offset}
@@ -167,13 +165,3 @@ fours-at f s (suc n) (suc k) l four h lt =
     ∙ getD-append-add (f s) (flatMap f (numbersFrom (suc s) n)) (4 * k + l) []
     ∙ fours-at f (suc s) n k l (λ t lo hi. four t (omega arith) (omega arith)) (omega arith) lt
     ∙ ap (λ (t : ℕ). getD (f t) l []) t
-
--- the last number below n that passes a test: i passes it, and none after i does
-pub last-below : (n : ℕ) (f : ℕ → Bool) (i : ℕ) → i < n → f i ≡ true → ((j : ℕ) → i < j → j < n → f j ≡ false) → lastBelow n f ≡ i
-unfolding lastBelow
-last-below zero f i h yes-here no-after = absurd (omega arith)
-last-below (suc n) f i h yes-here no-after =
-    elim (decLt i n) [
-      | yes k ↦ rw (no-after n k (omega arith)) (last-below n f i k yes-here (λ j p q. no-after j p (omega arith)))
-      | no k ↦ let e : n ≡ i = omega arith in rw (ap f e ∙ yes-here) e
-    ]

@@ -13,14 +13,15 @@ use lib.Seq.{take-all}
 use Rattle.format.specs.Seq.{All, numbersFrom, rankIn, total, upTo}
 use Rattle.format.specs.Trie.{onBits, bit, childAt}
 use Rattle.format.specs.Page.{Byte}
-use Rattle.format.specs.Image.{bandLevels, imageLevels, keyCount, keysOf, outLinkCount, pageB, pageCount, pageLevels, pageNodes, pageNumber, pagePairs, pageRoots, pageT, rootCount, pageWith, prefixesAt, depth}
-use Rattle.format.specs.Answer.{pageOf, rootOf}
+use Rattle.format.specs.Image.{bandLevels, imageLevels, keyCount, keysOf, outLinkCount, pageB, pageCount, pageLevels, pageNodes, pagePairs, pageRoots, pageT, rootCount, pageWith, prefixesAt, depth}
+use Rattle.format.specs.Answer.{rootOf}
 use Rattle.format.specs.Place.{offset, before, Reached}
 use Rattle.format.proofs.Checked.{Checked}
 use Rattle.format.proofs.Read.{page-four, page-shape, page-roots, next-roots, next-more, next-last, band-roots}
 use Rattle.format.proofs.Back.{image-32, keys-descend}
 use Rattle.format.proofs.Descent.{node-at, child-place, rank-at, key-prefix}
-use Rattle.format.proofs.Places.{place-child, offset-within, level-next, last-below}
+use Rattle.format.proofs.LastBelow.{last-below}
+use Rattle.format.proofs.Places.{place-child, offset-within, level-next}
 use Rattle.format.proofs.Levels.{descend-parts, levelAt, childPlace, prefixes-asc, shape-below, level-count, level-valid, next-prefix, next-within, no-prefix, level-of-band, before-roots, before-links, before-next, four, nodes-are, pairs-split, node-is, node-index, node-within, place-within, child-at-place, child-at-index}
 
 -- ---- the way down

@@ -1,16 +1,16 @@
 -- The pairs of words that were gathered from a page, and what the counts over the words say of them. Assumes nothing.
 use mathlib.Core.Path.{_≡_, sym, ap, ap₂, subst, _∙_}
-use mathlib.Core.List.{List, map}
-use Prim.Native.Nat.{ℕ, zero, suc, _+_, _≤_, _<_}
+use mathlib.Core.List.{List}
+use Prim.Native.Nat.{ℕ, _+_, _≤_, _<_}
 use native.Mathlib.Nat.{zero-add}
 use native.Mathlib.Omega.{arith}
 use lib.ListN.{length, getD, take, drop, length-map}
 use lib.Seq.{ext-getD}
-use Rattle.format.specs.Seq.{All, every, numbersFrom, upTo}
+use Rattle.format.specs.Seq.{All, every, upTo}
 use Rattle.format.specs.Trie.{onBits}
 use Rattle.format.specs.Page.{Byte, pairsAt}
 use Rattle.format.specs.Question.{isPositive, isZero}
-use Rattle.format.proofs.Lists.{length-upTo}
+use Rattle.format.proofs.Lists.{length-upTo, map-at}
 use Rattle.nodes.specs.declared.Words.{Words}
 use Rattle.nodes.specs.Words.{Gathered, nodeIn, noneEmpty, onesBefore, pairsIn, restEmpty, wordsOf}
 use Rattle.nodes.proofs.Numbers.{Nodes}
@@ -19,12 +19,6 @@ use Rattle.nodes.proofs.Used.{none-empty-law}
 use Rattle.nodes.proofs.Rest.{rest-empty-words}
 use Rattle.nodes.proofs.Calls.{counted, all-counted, node-read}
 
-map-at : (f : ℕ → ℕ) (s n i : ℕ) → i < n → getD (map f (numbersFrom s n)) i 0 ≡ f (s + i)
-unfolding numbersFrom
-map-at f s zero i h = absurd (omega arith)
-map-at f s (suc n) zero h = let e : s ≡ s + 0 = omega arith in ap f e
-map-at f s (suc n) (suc i) h = let e : suc s + i ≡ s + suc i = omega arith in map-at f (suc s) n i (omega arith) ∙ ap f e
-
 pub length-pairs-in : (word : List ℕ) → length (pairsIn word) ≡ 240
 unfolding pairsIn
 length-pairs-in word = length-map (upTo 240) (nodeIn word) ∙ length-upTo 240
@@ -32,7 +26,7 @@ length-pairs-in word = length-map (upTo 240) (nodeIn word) ∙ length-upTo 240
 -- a pair is the node at its place
 pub pair-in : (word : List ℕ) (p : ℕ) → p < 240 → getD (pairsIn word) p 0 ≡ nodeIn word p
 unfolding pairsIn upTo
-pair-in word p h = map-at (nodeIn word) 0 240 p h ∙ ap (nodeIn word) (zero-add p)
+pair-in word p h = map-at (nodeIn word) 0 0 240 p h ∙ ap (nodeIn word) (zero-add p)
 
 -- gathered from a page, the pairs are the page's
 pub pairs-are : (bytes : List ℕ) → All Byte bytes → (at : ℕ) → at + 64 ≤ length bytes → (words : Words) → words ≡ wordsOf bytes at → pairsIn (words .word) ≡ pairsAt bytes at

@@ -12,7 +12,7 @@ use lib.ListN.{length}
 use Rattle.format.specs.Page.{numberAt}
 use Rattle.format.specs.Image.{nextT, pageCount, pageNumber, pageT, pageWith, pagesBefore, rootCount}
 use Rattle.format.proofs.Read.{pages-within}
-use Rattle.format.proofs.Places.{last-below}
+use Rattle.format.proofs.LastBelow.{last-below}
 use Rattle.checker.specs.Paged.{BandAt}
 use Rattle.paged_lookup.specs.Paged.{hasPage}
 use Rattle.paged_lookup.specs.Way.{Upto}

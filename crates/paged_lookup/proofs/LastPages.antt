@@ -1,58 +1,19 @@
 -- The page that a root's number leads to, on every byte sequence where 27 gets a yes.
 -- Assumes nothing.
 use mathlib.Core.Path.{_≡_, refl, sym, ap, _∙_}
-use mathlib.Core.Bool.{Bool, true, false, cond, not}
+use mathlib.Core.Bool.{Bool, true, false, not}
 use mathlib.Core.List.{List}
-use Prim.Native.Nat.{ℕ, zero, suc, _+_, _≤_, _<_}
+use Prim.Native.Nat.{ℕ, _+_, _≤_, _<_}
 use native.Mathlib.Omega.{arith}
-use native.Mathlib.Decide.{decLe, decLt, ℕ-discrete}
+use native.Mathlib.Decide.{decLe, decLt}
 use lib.Dec.{leb, ltb}
 use borrow.Author.Tests.{le-leb, lt-ltb, le-ltb, leb-true, leb-false}
 use Rattle.format.specs.Seq.{every, lastBelow, upTo}
 use Rattle.format.specs.Image.{nextT, pageCount, pageT, pageWith, rootCount}
+use Rattle.format.proofs.LastBelow.{last-within, last-passes, last-after}
 use Rattle.format.proofs.Lists.{all-every, all-upTo, every-all, upTo-all}
 use Rattle.format.proofs.Checked.{cond-yes, cond-no}
 use Rattle.paged_lookup.specs.Paged.{hasPage}
-
--- ---- the last number that passes a test
-
-last-cases : (n : ℕ) (f : ℕ → Bool) (P : ℕ → Type 0) → (f n ≡ true → P n) → (f n ≡ false → P (lastBelow n f)) → P (lastBelow (suc n) f)
-unfolding lastBelow
-last-cases n f P here there = go (f n) here there
-  where
-    go : (t : Bool) → (t ≡ true → P n) → (t ≡ false → P (lastBelow n f)) → P (cond t n (lastBelow n f))
-    go true u v = u refl
-    go false u v = v refl
-
-pub last-within : (n : ℕ) (f : ℕ → Bool) → 1 ≤ n → lastBelow n f < n
-unfolding lastBelow
-last-within zero f h = absurd (omega arith)
-last-within (suc zero) f h = last-cases 0 f (λ k. k < 1) (λ e. omega arith) (λ e. omega arith)
-last-within (suc (suc n)) f h = last-cases (suc n) f (λ k. k < suc (suc n)) (λ e. omega arith) (λ e. omega (arith, last-within (suc n) f (omega arith)))
-
-pub last-le : (n : ℕ) (f : ℕ → Bool) → lastBelow n f ≤ n
-unfolding lastBelow
-last-le zero f = omega arith
-last-le (suc n) f = omega (arith, last-within (suc n) f (omega arith))
-
--- where one passes, the last passes
-pub last-passes : (n : ℕ) (f : ℕ → Bool) (j : ℕ) → j < n → f j ≡ true → f (lastBelow n f) ≡ true
-last-passes zero f j h e = absurd (omega arith)
-last-passes (suc n) f j h e =
-    last-cases n f (λ k. f k ≡ true) (λ p. p)
-    (λ q. elim (ℕ-discrete j n) [
-      | yes s ↦ absurd (let z : true ≡ false = sym e ∙ ap f s ∙ q in let w : _≡_ {A = ℕ} 0 1 = cc in omega arith)
-      | no s ↦ last-passes n f j (omega arith) e
-    ])
-
--- none after it passes
-pub last-after : (n : ℕ) (f : ℕ → Bool) (j : ℕ) → j < n → lastBelow n f < j → f j ≡ false
-last-after zero f j h k = absurd (omega arith)
-last-after (suc n) f j h k =
-    last-cases n f (λ m. m < j → f j ≡ false) (λ e lt. absurd (omega arith))
-    (λ e lt. elim (ℕ-discrete j n) [ yes s ↦ ap f s ∙ e | no s ↦ last-after n f j (omega arith) lt ]) k
-
--- ---- on every byte sequence
 
 -- page i of band b is the last whose T is at or below a root's number
 pub record LastAt (img : List ℕ) (b root i : ℕ) : Type 0 where

@@ -17,19 +17,13 @@ use Rattle.format.specs.Page.{levelsIn, numberAt, pairsAt, pairsOf}
 use Rattle.format.specs.Image.{bands, nextT, pageB, pageCount, pageLevels, pageNumber, pagePairs, pageRoots, pageT, pageWith, rootCount}
 use Rattle.format.specs.Question.{Outcome, andThen, firstNo, headerQuestions, isZero, nodeQuestions, outcome, refused, returns, settle}
 use Rattle.format.specs.Answer.{LookupAnswer, absent}
-use Rattle.format.proofs.Lists.{all-upTo, drop-take}
+use Rattle.format.proofs.LastBelow.{last-same, last-within}
+use Rattle.format.proofs.Lists.{all-upTo, drop-take, every-same}
 use Rattle.format.proofs.Checked.{cond-no, cond-yes}
 use Rattle.paged_lookup.specs.Paged.{Way, out, off, follow, hasPage, leaving, linked, pagedAnswer, pagedLookup, rootQuestions, through, walk, wayFrom}
 use Rattle.paged_lookup.specs.EightPages.{Agree, Reads, bytesOfPage}
-use Rattle.paged_lookup.proofs.LastPages.{last-within}
-use Rattle.paged_lookup.proofs.SameHeader.{every-same, keys-same, pages-same, roots-same, due-same, page-number-same, header-same}
+use Rattle.paged_lookup.proofs.SameHeader.{keys-same, pages-same, roots-same, due-same, page-number-same, header-same}
 use Rattle.paged_lookup.proofs.Bands.{no-27}
-
--- the last that passes a test
-last-same : (f g : ℕ → Bool) (n : ℕ) → ((i : ℕ) → i < n → f i ≡ g i) → lastBelow n f ≡ lastBelow n g
-unfolding lastBelow
-last-same f g zero h = refl
-last-same f g (suc n) h = ap₂ (λ (t : Bool) (m : ℕ). cond t n m) (h n (omega arith)) (last-same f g n (λ i k. h i (omega arith)))
 
 -- ---- a page
 

@@ -1,6 +1,6 @@
 -- Bytes that agree in their first 64: the same numbers, and the same answers to 1 to 7 where the lengths agree too.
 -- Assumes nothing.
-use mathlib.Core.Path.{_≡_, refl, sym, ap, ap₂, _∙_}
+use mathlib.Core.Path.{_≡_, sym, ap, ap₂, _∙_}
 use mathlib.Core.Bool.{Bool, _&&_, _||_, cond}
 use mathlib.Core.List.{List, [], _∷_, map}
 use Prim.Native.Nat.{ℕ, _+_, _-_, _*_, _≤_, _<_}
@@ -10,19 +10,13 @@ use lib.Dec.{eqb, leb, ltb}
 use borrow.Author.Tests.{lt-ltb, le-ltb}
 use lib.ListN.{length, getD, take, drop}
 use lib.Seq.{getD-take}
-use Rattle.format.specs.Seq.{All, every, numbersFrom, total, upTo}
+use Rattle.format.specs.Seq.{every, numbersFrom, total, upTo}
 use Rattle.format.specs.Page.{numberAt}
 use Rattle.format.specs.Header.{mark}
 use Rattle.format.specs.Image.{bands, keyCount, liftOf, pageCount, pageNumber, pagesBefore, rootCount, versionOf}
 use Rattle.format.specs.Question.{countsFit, headerQuestions, isLift, isPositive, isZero, liftRight, markRight, outLinksDue, versionKnown, zerosRight}
-use Rattle.format.proofs.Lists.{all-numbers, all-upTo, drop-take, map-same}
+use Rattle.format.proofs.Lists.{all-numbers, all-upTo, drop-take, every-same, map-same}
 use Rattle.format.proofs.Checked.{cond-no, cond-yes}
-
--- a test of every element
-pub every-same : (f g : ℕ → Bool) (l : List ℕ) → All (λ i. f i ≡ g i) l → every f l ≡ every g l
-unfolding every
-every-same f g [] h = refl
-every-same f g (x ∷ l) h = ap₂ _&&_ (h .0) (every-same f g l (h .1))
 
 module _ (x y : List ℕ) (e : take 64 y ≡ take 64 x) where
   byte-same : (i : ℕ) → i < 64 → getD y i 0 ≡ getD x i 0

@@ -21,6 +21,7 @@ use Rattle.format.proofs.Jobs.{settle-yes}
 use Rattle.format.proofs.Checked.{Counts, Header, cond-no, cond-yes, header-of, no-keys, some-keys}
 use Rattle.format.proofs.Bytes.{number-small}
 use Rattle.format.proofs.Back.{pagesBefore-suc}
+use Rattle.format.proofs.LastBelow.{last-le}
 use Rattle.header.specs.Refusal.{refusalOf}
 use Rattle.header.proofs.Refusals.{none-refused, refused-outcome}
 use Rattle.checker.specs.Paged.{BandAt}
@@ -30,7 +31,6 @@ use Rattle.paged_lookup.specs.declared.band.Step.{Step}
 use Rattle.paged_lookup.specs.Paged.{out, off, pagedAnswer, pagedLookup, through, walk}
 use Rattle.paged_lookup.specs.Way.{HeaderYes, StepRight, wayOutcome}
 use Rattle.paged_lookup.specs.Outcomes.{NoPages, lookupOutcome}
-use Rattle.paged_lookup.proofs.LastPages.{last-le}
 use Rattle.paged_lookup.proofs.Bands.{left-below}
 
 -- an answer with page numbers beside is an outcome
