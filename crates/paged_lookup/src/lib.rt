@@ -52,6 +52,7 @@ fn walk(image: &[u8], key: u32, accepted: bool) -> Found
         return no_pages(Presence::Absent);
     }
     let mut pages = [0u32; 8];
+    // the link that leads to root 0 of band 1
     let mut link = OutLink(0);
     let mut first = 1;
     let mut passed = 0;
