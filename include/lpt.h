@@ -17,8 +17,8 @@
  * lpt_lookup8 alone checks the header and the eight pages that it reads, and no more.
  *
  * Stack, measured on 4,096 random admissions on x86-64: lpt_write 17,088 bytes, lpt_write_keys 16,928, lpt_list
- * 2,872, lpt_count 2,840, lpt_scan 2,248, lpt_lookup 960, lpt_find 560, lpt_key 544, lpt_check and lpt_lift 320,
- * lpt_admission_of 88.
+ * 2,872, lpt_count 2,840, lpt_scan 2,192, lpt_find 680, lpt_lookup 672, lpt_lookup8 624, lpt_key 544, lpt_check and
+ * lpt_lift 440, lpt_admission_of 88.
  */
 #ifndef LPT_H
 #define LPT_H
