@@ -52,15 +52,12 @@ module _ {x y : List ℕ} {page : ℕ → ℕ} (a : Agree x y page) (key b : ℕ
   count-is = pages-same x y (a .header-is) b hi
 
   -- T is asked of the band's pages alone
-  over-pages : (f : ℕ → ℕ → Bool) → every (λ i. f (pageT y b i) i) (upTo (pageCount y b)) ≡ every (λ i. f (pageT x b i) i) (upTo (pageCount x b))
-  over-pages f =
-      ap (λ (n : ℕ). every (λ i. f (pageT y b i) i) (upTo n)) count-is
-      ∙ every-same (λ i. f (pageT y b i) i) (λ i. f (pageT x b i) i) (upTo (pageCount x b))
-      (all-upTo (λ i. f (pageT y b i) i ≡ f (pageT x b i) i) (pageCount x b) (λ i h. ap (λ (t : ℕ). f t i) (a .T-is b i lo hi h)))
-
   has-same : (root : ℕ) → hasPage y b root ≡ hasPage x b root
   unfolding hasPage
-  has-same root = ap not (over-pages (λ t i. ltb root t))
+  has-same root =
+      ap (λ (n : ℕ). not (every (λ i. ltb root (pageT y b i)) (upTo n))) count-is
+      ∙ ap not (every-same (λ i. ltb root (pageT y b i)) (λ i. ltb root (pageT x b i)) (upTo (pageCount x b))
+      (all-upTo (λ i. ltb root (pageT y b i) ≡ ltb root (pageT x b i)) (pageCount x b) (λ i h. ap (ltb root) (a .T-is b i lo hi h))))
 
   with-same : (root : ℕ) → pageWith y b root ≡ pageWith x b root
   unfolding pageWith
