@@ -1,7 +1,8 @@
 // Reads an image from standard input, turns over each of its bits in turn, and prints how many of these images each question refuses, which have
 // another lift and are accepted with the same list, and which are accepted otherwise, with the list that such an image then has. No image is: a bit
 // of the lift is the only one that can go unnoticed. Input that is refused prints what the listing program prints of it.
-use checker::Checked;
+use answers::lift_of;
+use answers::refusal;
 use testing::one_more;
 use testing::starts_with_bytes;
 
@@ -11,24 +12,8 @@ const OTHER_LIFT: usize = 41;
 // The lift of the image that is surveyed, and how many images with a bit turned over each question refused; place 0 counts those that are accepted
 // otherwise, and the last those with another lift.
 pub struct Survey {
-    pub lift: usize,
+    pub lift: u32,
     pub counts: [u32; 42],
-}
-
-// The checker's number, or 0 for an accepted image.
-fn refusal(image: &[u8]) -> usize {
-    match checker::check(image) {
-        Checked::Accepted(_) => 0,
-        Checked::Refused(n) => n as usize,
-    }
-}
-
-// The lift of an accepted image.
-fn lift_of(image: &[u8]) -> usize {
-    match checker::lift(image) {
-        Checked::Accepted(n) => n,
-        Checked::Refused(_) => 65536,
-    }
 }
 
 // The survey with one more image that got the number `n`.
@@ -67,7 +52,7 @@ fn is_printed(image: &[u8], text: &[u8]) -> bool {
 }
 
 // The number of an accepted image: another lift and the same list, or 0.
-fn accepted(image: &[u8], text: &[u8], lift: usize) -> usize {
+fn accepted(image: &[u8], text: &[u8], lift: u32) -> usize {
     if lift_of(image) == lift {
         return 0;
     }
@@ -78,10 +63,10 @@ fn accepted(image: &[u8], text: &[u8], lift: usize) -> usize {
 }
 
 // The number of an image with a bit of byte `at` turned over; one that is accepted otherwise than for another lift is said.
-fn judge(image: &[u8], text: &[u8], lift: usize, at: usize, bit: u8) -> usize {
+fn judge(image: &[u8], text: &[u8], lift: u32, at: usize, bit: u8) -> usize {
     let n = refusal(image);
     if n != 0 {
-        return n;
+        return n as usize;
     }
     let kind = accepted(image, text, lift);
     if kind == 0 {

@@ -6,22 +6,14 @@ use crate::tally::LISTINGS;
 use crate::tally::LOOKUPS;
 use crate::tally::Tally;
 use crate::tally::expect;
+use answers::member_count;
 use format::Admission;
 use format::Rectangle;
 use paged_lookup::Presence;
 use query::ByRank;
-use query::Members;
 use testing::Random;
 use testing::rectangle;
 use testing::whole_square;
-
-// How many members an answer has; 65,536 for a refusal.
-pub fn member_count(members: Members) -> usize {
-    match members {
-        Members::Count(n) => n,
-        Members::Refused(_) => 65536,
-    }
-}
 
 // The place after a key that is listed at `place`, the same place for one outside, and 65,536 for one inside that is not listed there.
 fn next_place(key: u32, rectangle: Rectangle, listed: &[u32], place: usize) -> usize {

@@ -5,6 +5,7 @@ use crate::rule::Card;
 use crate::rule::is_by_another;
 use crate::rule::rank_of;
 use crate::rule::rule;
+use answers::is_answer;
 use gate::Scanned;
 use testing::Random;
 use testing::holder_of;
@@ -24,13 +25,6 @@ fn answer_of(scanned: Scanned) -> u8 {
     match scanned {
         Scanned::Opened(_) => 0,
         Scanned::Refused(n) => n,
-    }
-}
-
-fn is_answer(scanned: Scanned, refusal: u8, rank: usize) -> bool {
-    match scanned {
-        Scanned::Opened(r) => refusal == 0 && r as usize == rank,
-        Scanned::Refused(n) => n != 0 && n == refusal,
     }
 }
 

@@ -1,7 +1,6 @@
 // Damaged images. One that is still accepted must be the exact image of its list and its lift, and is counted by what it is: the same list
 // and lift, where two pages alike were exchanged, the same list for another lift, or another list. In every one the eight-page lookup must do
 // what its steps say.
-use crate::ask::member_count;
 use crate::ask::pick;
 use crate::eight;
 use crate::tally::DAMAGED;
@@ -11,33 +10,19 @@ use crate::tally::SAME;
 use crate::tally::Tally;
 use crate::tally::expect;
 use crate::tally::note;
-use checker::Checked;
+use answers::length_of;
+use answers::lift_of;
+use answers::member_count;
+use answers::refusal;
 use testing::Random;
 use testing::starts_with;
 use testing::starts_with_bytes;
 use testing::whole_square;
-use writer::Written;
 
 // Of the sound image: its lift, and the rank of an admission that is looked up in the damaged one.
 pub struct Sound {
     pub lift: u32,
     pub rank: usize,
-}
-
-// The writer's length, or 0 where it refuses.
-pub fn length_of(written: Written) -> usize {
-    match written {
-        Written::Length(n) => n,
-        Written::Refused(_) => 0,
-    }
-}
-
-// The lift that the checker says; 65,536 where it refuses.
-pub fn lift_of(image: &[u8]) -> u32 {
-    match checker::lift(image) {
-        Checked::Accepted(n) => (n % 65536) as u32,
-        Checked::Refused(_) => 65536,
-    }
 }
 
 // Whether the writer makes this image of the keys, for its lift.
@@ -76,10 +61,11 @@ fn judge_accepted(tally: Tally, image: &[u8], keys: &[u32], lift: u32) -> Tally 
 // The judgement of a damaged image of the keys.
 fn judge(tally: Tally, image: &[u8], keys: &[u32], sound: Sound) -> Tally {
     let t = eight::ask_damaged(tally, image, keys, sound.rank);
-    match checker::check(image) {
-        Checked::Refused(n) => note(expect(t, DAMAGED, true), n as usize),
-        Checked::Accepted(_) => judge_accepted(t, image, keys, sound.lift),
+    let n = refusal(image);
+    if n != 0 {
+        return note(expect(t, DAMAGED, true), n as usize);
     }
+    judge_accepted(t, image, keys, sound.lift)
 }
 
 // Some bits of a byte changed.

@@ -8,28 +8,10 @@ use crate::tally::EIGHT_REFUSED;
 use crate::tally::Tally;
 use crate::tally::expect;
 use crate::tally::note;
-use paged_lookup::Found;
+use answers::are_same;
 use paged_lookup::Presence;
 use testing::holder_of;
 use testing::slot_of;
-use testing::starts_with;
-
-// A number for each answer.
-fn code(answer: Presence) -> u64 {
-    match answer {
-        Presence::Refused(n) => n as u64,
-        Presence::Absent => 256,
-        Presence::Listed(rank) => 257 + rank as u64,
-    }
-}
-
-fn are_same(a: Found, b: Found) -> bool {
-    let answer = a.answer;
-    let other = b.answer;
-    let pages = a.pages;
-    let others = b.pages;
-    code(answer) == code(other) && starts_with(&pages, &others)
-}
 
 // A lookup in a sound image, where the full lookup must give the same too.
 pub fn ask_sound(tally: Tally, image: &[u8], holder: u16, slot: u16) -> Tally {

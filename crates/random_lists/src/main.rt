@@ -40,14 +40,14 @@ fn compare(tally: Tally, keys: &[u32], lift: u32, image: &mut [u8], seed: Random
 // Writes the image of the keys for a lift, 0 for version 1, and compares.
 fn compare_list(tally: Tally, keys: &[u32], lift: u32, seed: Random) -> Tally {
     let mut image = [0u8; format::MOST_BYTES];
-    let length = damage::length_of(writer::write_either(keys, lift, &mut image));
+    let length = answers::length_of(writer::write_either(keys, lift, &mut image));
     if length < 64 {
         return expect(tally, LISTS, false);
     }
     if format::MOST_BYTES < length {
         return expect(tally, LISTS, false);
     }
-    let is_right = damage::lift_of(&image[0..length]) == lift;
+    let is_right = answers::lift_of(&image[0..length]) == lift;
     compare(
         expect(tally, LISTS, is_right),
         keys,

@@ -1,11 +1,11 @@
 // Pairs of lists that differ only outside a rectangle must list alike inside it, whatever their versions and lifts.
 use crate::ask::at_rank;
-use crate::ask::member_count;
 use crate::ask::pick;
-use crate::damage::length_of;
 use crate::tally::PAIRS;
 use crate::tally::Tally;
 use crate::tally::expect;
+use answers::length_of;
+use answers::member_count;
 use format::Rectangle;
 use testing::Random;
 use testing::rectangle;

@@ -3,31 +3,10 @@ use crate::images::two_pages_with;
 use crate::images::with_byte;
 use crate::say::Tally;
 use crate::say::case;
+use answers::are_same;
 use paged_lookup::Found;
 use paged_lookup::Presence;
 use paged_lookup::no_pages;
-use testing::starts_with;
-
-// A number of its own for each answer: the rank, or one that no rank is.
-fn number_of(answer: Presence) -> u64 {
-    match answer {
-        Presence::Listed(rank) => rank as u64,
-        Presence::Absent => 4294967296,
-        Presence::Refused(n) => 4294967297 + n as u64,
-    }
-}
-
-// Whether two answers are the same, page numbers too.
-fn are_same(found: Found, expected: Found) -> bool {
-    let pages = found.pages;
-    let expected_pages = expected.pages;
-    if !starts_with(&pages, &expected_pages) {
-        return false;
-    }
-    let answer = found.answer;
-    let expected_answer = expected.answer;
-    number_of(answer) == number_of(expected_answer)
-}
 
 pub fn listed(rank: u32, pages: [u32; 8]) -> Found {
     Found {

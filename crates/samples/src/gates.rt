@@ -1,9 +1,9 @@
 // The gate's scans of a version 1 image, which passes at any lift's gate: the lockout rows of the paper, and questions 22 to 26 on both sides of their edges.
 // Both admissions are holder 0's, so the larger of their records counts for each.
 use crate::images::two_keys;
-use crate::judge::is_answer;
 use crate::say::Tally;
 use crate::say::case;
+use answers::is_answer;
 use testing::starts_with;
 
 // The cases so far, and the records: of the ranks 0 and 1, then the counts of the lanes 1 to 8.
@@ -61,7 +61,7 @@ pub fn is_scanned(image: &[u8], records: &mut [u32], holder: u16, asked: Scan) -
         asked.lane,
         7,
     );
-    is_answer(scanned, asked.refusal, asked.number)
+    is_answer(scanned, asked.refusal, asked.number as usize)
 }
 
 // A scan in lane 1 that opens.

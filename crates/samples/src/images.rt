@@ -154,14 +154,6 @@ pub fn all_numbers(numbers: &[u32], x: u32) -> bool {
     true
 }
 
-// The writer's length, or 0 where it refuses.
-pub fn length_of(written: Written) -> usize {
-    match written {
-        Written::Length(n) => n,
-        Written::Refused(_) => 0,
-    }
-}
-
 // The writer's number, or 0.
 pub fn refusal_of(written: Written) -> u8 {
     match written {

@@ -13,7 +13,7 @@ use crate::judge::scans;
 use crate::questions::are_not_written;
 use crate::say::Tally;
 use crate::say::case;
-use checker::Checked;
+use answers::lift_of;
 use testing::starts_with_bytes;
 
 // The image of key 0 in version 2, with these bytes in place of the lift's, and one that must be zero.
@@ -73,14 +73,6 @@ pub fn writers(tally: Tally) -> Tally {
     t = case(t, names, is_refused(4097, 0));
     t = case(t, names, are_not_written(2, 0, 35));
     case(t, names, are_not_written(2, 65537, 35))
-}
-
-// The lift that the checker says, or 65,536.
-fn lift_of(image: &[u8]) -> usize {
-    match checker::lift(image) {
-        Checked::Accepted(n) => n,
-        Checked::Refused(_) => 65536,
-    }
 }
 
 // Whether an image has these numbers as version and lift, and is the one of version 1 in every other byte.

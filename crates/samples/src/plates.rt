@@ -1,15 +1,15 @@
 // The plates without a star, packings at their edges, and a list that needs many pages.
 use crate::images::five_nodes;
-use crate::images::length_of;
 use crate::images::no_key;
 use crate::images::number;
 use crate::images::part_is;
 use crate::images::steps;
 use crate::images::two_keys;
 use crate::judge::accepts;
-use crate::judge::member_count;
 use crate::say::Tally;
 use crate::say::case;
+use answers::length_of;
+use answers::member_count;
 use format::MOST_BYTES;
 use testing::starts_with;
 use testing::starts_with_bytes;

@@ -1,23 +1,24 @@
 // Questions 14 to 20, and the answers beside them.
+use crate::found::absent;
+use crate::found::in_page;
 use crate::images::all_bytes;
 use crate::images::all_numbers;
 use crate::images::image_for;
-use crate::images::length_of;
 use crate::images::refusal_of;
 use crate::images::steps;
 use crate::images::two_keys;
 use crate::images::two_pages;
 use crate::judge::find_refusal;
-use crate::judge::member_count;
 use crate::judge::members_refusal;
 use crate::say::Tally;
 use crate::say::case;
+use answers::are_same;
+use answers::length_of;
+use answers::member_count;
 use format::Admission;
 use format::Rectangle;
-use paged_lookup::Presence;
 use query::ByRank;
 use testing::rectangle;
-use testing::starts_with;
 use testing::starts_with_bytes;
 use testing::whole_square;
 
@@ -197,35 +198,6 @@ fn is_found(image: &[u8], rank: u32, holder: u16, slot: u16) -> bool {
     }
 }
 
-// Whether lookup gives this rank, and path pages 1 to 7 and `last`.
-fn is_listed(image: &[u8], holder: u16, slot: u16, rank: u32, last: u32) -> bool {
-    let found = query::lookup(image, holder, slot);
-    let pages = found.pages;
-    if !starts_with(&pages, &[1, 2, 3, 4, 5, 6, 7, last]) {
-        return false;
-    }
-    let answer = found.answer;
-    match answer {
-        Presence::Listed(r) => r == rank,
-        Presence::Absent => false,
-        Presence::Refused(_) => false,
-    }
-}
-
-fn is_absent(image: &[u8], holder: u16, slot: u16) -> bool {
-    let found = query::lookup(image, holder, slot);
-    let pages = found.pages;
-    if !all_numbers(&pages, 0) {
-        return false;
-    }
-    let answer = found.answer;
-    match answer {
-        Presence::Listed(_) => false,
-        Presence::Absent => true,
-        Presence::Refused(_) => false,
-    }
-}
-
 // 20, and lookup. Key 944 is holder 28, slot 20, and key 960 is holder 24, slot 24.
 pub fn ranks(tally: Tally) -> Tally {
     let names: &[u8] = b"\
@@ -243,8 +215,20 @@ pub fn ranks(tally: Tally) -> Tally {
     t = case(t, names, is_found(image, 60, 24, 24));
     t = case(t, names, is_found(image, 59, 28, 20));
     t = case(t, names, find_refusal(query::find(image, 4294967295)) == 20);
-    t = case(t, names, is_listed(image, 28, 20, 59, 8));
-    t = case(t, names, is_listed(image, 24, 24, 60, 9));
-    t = case(t, names, is_absent(image, 24, 25));
-    case(t, names, is_absent(image, 65535, 65535))
+    t = case(
+        t,
+        names,
+        are_same(query::lookup(image, 28, 20), in_page(59, 8)),
+    );
+    t = case(
+        t,
+        names,
+        are_same(query::lookup(image, 24, 24), in_page(60, 9)),
+    );
+    t = case(t, names, are_same(query::lookup(image, 24, 25), absent()));
+    case(
+        t,
+        names,
+        are_same(query::lookup(image, 65535, 65535), absent()),
+    )
 }
