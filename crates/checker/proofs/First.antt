@@ -8,7 +8,7 @@ use borrow.Author.Tests.{lt-ltb, le-ltb}
 use Rattle.format.specs.Page.{firstSubtries, levelsIn}
 use Rattle.format.specs.Question.{firstNo, noRoom, nodeQuestions, questionsFrom9}
 use Rattle.format.proofs.Bytes.{length-levelsIn}
-use Rattle.format.proofs.Checked.{nodes-of, nodes-shape}
+use Rattle.format.proofs.NodeQuestions.{nodes-of, nodes-shape}
 use Rattle.format.proofs.Subtries.{first-shape, length-first, node-bounds}
 use Rattle.format.proofs.Counting.{marks, marks-mono, subtrie-counted, thirdAt}
 use Rattle.format.proofs.Questions.{after-yes, asked-no, asked-yes, yes-of-none}

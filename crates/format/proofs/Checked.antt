@@ -11,16 +11,16 @@ use lib.Dec.{leb, eqb}
 use borrow.Author.Tests.{eqb-true, leb-true, ltb-true, eq-eqb, ne-eqb, le-leb, lt-ltb}
 use lib.ListN.{length, getD, take, drop}
 use Rattle.format.specs.Seq.{All, every, numbersFrom, total, upTo}
-use Rattle.format.specs.Page.{firstSubtries, levelsIn, nodeCount, numberAt}
+use Rattle.format.specs.Page.{firstSubtries, nodeCount, numberAt}
 use Rattle.format.specs.Header.{mark, versionFor}
 use Rattle.format.specs.Image.{bands, keyCount, liftOf, outLinkCount, pageB, pageCount, pageLevels, pageNodes, pagePairs, pageRoots, pageT, rootCount, versionOf}
 use Rattle.format.specs.Question.{Yes, bandQuestions, countsFit, firstNo, headRight, headerQuestions, imageQuestions, isLift, isPositive, isZero, liftRight, markRight, noRoom, nodeQuestions, outLinksDue, pageNeeded, pageQuestions, questionsFrom9, versionKnown, zerosRight}
 use Rattle.format.proofs.Lists.{and-left, and-right, and-both, or-first, or-second, or-rest, all-append, all-left, all-right, all-flatMap, flatMap-all, all-upTo, upTo-all, all-numbers, numbers-all, every-all, all-every}
-use Rattle.format.proofs.Questions.{yes-of-none, none-of-yes, of-range, range-of}
+use Rattle.format.proofs.Questions.{yes-of-none, none-of-yes}
 use Rattle.format.proofs.Jobs.{lift-range, lift-yes}
-use Rattle.format.proofs.Trie.{Shape}
-use Rattle.format.proofs.Bytes.{all-zero, zero-all, levels-shape}
+use Rattle.format.proofs.Bytes.{all-zero, zero-all}
 use Rattle.format.proofs.HeaderBytes.{version-some}
+use Rattle.format.proofs.NodeQuestions.{NodesOk, nodes-of, of-nodes}
 
 -- 1 to 13, with 35, all get a yes
 abbrev pub AllYes : List ℕ → Type 0
@@ -220,39 +220,7 @@ unfolding pageNeeded noRoom
 of-full img b zero h = refl
 of-full img b (suc i) h = lt-ltb 240 _ h
 
--- 9 to 11, of a row of pairs with r roots
-pub record NodesOk (r : ℕ) (pairs : List ℕ) : Type 0 where
-  pub some-roots : 1 ≤ r
-  pub few-roots : r ≤ 60
-  pub within : nodeCount r (levelsIn 4 r pairs) ≤ 240
-  pub positive : All (λ l. every isPositive l ≡ true) (levelsIn 4 r pairs)
-  pub zeros : every isZero (drop (nodeCount r (levelsIn 4 r pairs)) pairs) ≡ true
-
-module _ (r : ℕ) (pairs : List ℕ) where
-  pub nodes-of : All Yes (nodeQuestions r pairs) → NodesOk r pairs
-  unfolding nodeQuestions
-  nodes-of h =
-      let few : Bool = leb (nodeCount r (levelsIn 4 r pairs)) 240 in
-      let valid : Bool = every (every isPositive) (levelsIn 4 r pairs) in
-      record {
-        some-roots = range-of 60 r (h .0) .0;
-        few-roots = range-of 60 r (h .0) .1;
-        within = leb-true (nodeCount r (levelsIn 4 r pairs)) 240 (and-left few valid (h .1 .0));
-        positive = every-all (every isPositive) (levelsIn 4 r pairs) (and-right few valid (h .1 .0));
-        zeros = h .1 .1 .0;
-      }
-
-  pub of-nodes : NodesOk r pairs → All Yes (nodeQuestions r pairs)
-  unfolding nodeQuestions
-  of-nodes h = (
-    of-range 60 r (h .some-roots) (h .few-roots),
-    (and-both (le-leb (nodeCount r (levelsIn 4 r pairs)) 240 (h .within)) (all-every (every isPositive) (levelsIn 4 r pairs) (h .positive)), (h .zeros, tt)),
-  )
-
-  -- the levels hang together
-  pub nodes-shape : All (λ x. x ≤ 3) pairs → length pairs ≡ 240 → NodesOk r pairs → Shape r (levelsIn 4 r pairs)
-  nodes-shape small e h = levels-shape 4 r pairs small (omega (arith, h .within)) (h .positive)
-
+-- 9 to 11
 pub page-nodes : (img : List ℕ) (b i : ℕ) → PageOk img b i → NodesOk (pageRoots img b i) (pagePairs img b i)
 unfolding pageNodes pageLevels
 page-nodes img b i h = record { some-roots = h .some-roots; few-roots = h .few-roots; within = h .within; positive = h .positive; zeros = h .zeros }

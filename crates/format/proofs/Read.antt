@@ -21,7 +21,8 @@ use Rattle.format.proofs.Trie.{Shape}
 use Rattle.format.proofs.Shapes.{lastOn}
 use Rattle.format.proofs.Pages.{Page, Paged, Follows, glue, glue-four, glue-roots, glue-shape, glue-level, four-levels, glue-links, lastOn-four, shape-roots, pages-only}
 use Rattle.format.proofs.Bytes.{length-pairs, pairs-small, length-levelsIn, page-back, length-block}
-use Rattle.format.proofs.Checked.{Counts, no-keys, some-keys, Checked, cond-yes, cond-no, nodes-shape, page-nodes}
+use Rattle.format.proofs.NodeQuestions.{nodes-shape}
+use Rattle.format.proofs.Checked.{Counts, no-keys, some-keys, Checked, cond-yes, cond-no, page-nodes}
 
 -- ---- pages within the image
 

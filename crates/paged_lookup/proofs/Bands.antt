@@ -15,7 +15,8 @@ use Rattle.format.specs.Answer.{absent, lookupAnswer, pageOf}
 use Rattle.format.specs.Place.{Reached}
 use Rattle.format.proofs.Questions.{asked-no, asked-yes, none-of-yes, yes-of-none}
 use Rattle.format.proofs.Jobs.{settle-no, settle-yes, yes-of-returns}
-use Rattle.format.proofs.Checked.{of-nodes, page-nodes}
+use Rattle.format.proofs.NodeQuestions.{of-nodes}
+use Rattle.format.proofs.Checked.{page-nodes}
 use Rattle.format.proofs.Read.{next-roots}
 use Rattle.format.proofs.Walk.{reached-root, roots-count, root-is}
 use Rattle.pages.specs.Page.{Ready}

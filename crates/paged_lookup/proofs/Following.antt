@@ -14,7 +14,7 @@ use Rattle.format.specs.Place.{offset}
 use Rattle.format.specs.Question.{nodeQuestions}
 use Rattle.format.proofs.Trie.{Shape}
 use Rattle.format.proofs.Questions.{yes-of-none}
-use Rattle.format.proofs.Checked.{NodesOk, nodes-of, nodes-shape}
+use Rattle.format.proofs.NodeQuestions.{NodesOk, nodes-of, nodes-shape}
 use Rattle.format.proofs.Bytes.{length-levelsIn}
 use Rattle.format.proofs.Descent.{child-place}
 use Rattle.format.proofs.Places.{level-next, row-child, row-end, row-node, row-within}

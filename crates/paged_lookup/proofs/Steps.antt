@@ -13,7 +13,8 @@ use Rattle.format.specs.Image.{nextT, pageB, pageLevels, pageNodes, pageNumber,
 use Rattle.format.specs.Question.{andThen, firstNo, nodeQuestions, oneTo, outLinksDue, outcome, returns, settle}
 use Rattle.format.proofs.Questions.{asked-no, none-of-yes}
 use Rattle.format.proofs.Jobs.{settle-no, settle-yes}
-use Rattle.format.proofs.Checked.{NodesOk, of-nodes, page-nodes}
+use Rattle.format.proofs.NodeQuestions.{NodesOk, of-nodes}
+use Rattle.format.proofs.Checked.{page-nodes}
 use Rattle.format.proofs.Walk.{page-with}
 use Rattle.nodes.specs.declared.Words.{Words}
 use Rattle.nodes.specs.Words.{Gathered, pairsIn, wordsOf}
@@ -30,7 +31,7 @@ use Rattle.paged_lookup.specs.declared.page.Way.{Way}
 use Rattle.paged_lookup.specs.declared.page.Way.the-variants.{Out, Off, Refused}
 use Rattle.paged_lookup.specs.declared.band.Step.{Step}
 use Rattle.paged_lookup.specs.Paged as paged
-use Rattle.paged_lookup.specs.Paged.{out, off, follow, hasPage, leaving, linked, through, wayFrom}
+use Rattle.paged_lookup.specs.Paged.{out, off, follow, hasPage, leaving, linked, wayFrom}
 use Rattle.paged_lookup.specs.Way.{JudgedIn, StepRight, wayOutcome}
 use Rattle.paged_lookup.proofs.LastPages.{last-page, root-before}
 use Rattle.paged_lookup.proofs.Bands.{has, leave-no, leave-yes, no-27, past-27}
