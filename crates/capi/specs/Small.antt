@@ -1,6 +1,6 @@
 -- Answers whose numbers are small enough to be handed to C as they are.
 -- Assumes nothing.
-use Prim.Native.Nat.{ℕ, _≤_}
+use Prim.Native.Nat.{_≤_}
 use Rattle.checker.specs.declared.Checked.{Checked}
 use Rattle.checker.specs.declared.Checked.the-variants.{Accepted, Refused}
 use Rattle.writer.specs.declared.Written.{Written}

@@ -27,7 +27,6 @@ not-nine t next e = go (oneTo 60 (next - t)) refl e
 -- 1 to 60
 pub record Nine (t next roots : ℕ) : Type 0 where
   pub is : roots ≡ next - t
-  pub yes-9 : oneTo 60 (next - t) ≡ true
   pub some : 1 ≤ roots
   pub few : roots ≤ 60
 
@@ -37,7 +36,7 @@ nine t next {roots} e nz = go (oneTo 60 (next - t)) refl e
   where
     go : (x : Bool) → oneTo 60 (next - t) ≡ x → roots ≡ cond x (next - t) 0 → Nine t next roots
     go false f g = absurd (nz g)
-    go true f g = let r = range-of 60 (next - t) f in record { is = g; yes-9 = f; some = omega arith; few = omega arith }
+    go true f g = let r = range-of 60 (next - t) f in record { is = g; some = omega arith; few = omega arith }
 
 -- and what roots_from returns
 pub none-from : (t next : ℕ) → next ≤ t → 0 ≡ rootsFrom t next

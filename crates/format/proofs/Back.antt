@@ -145,6 +145,14 @@ module _ (img : List ℕ) (a : All Byte img) (c : Checked img) where
       go (no-keys z f) = none-listed (empty-list (f 1 (omega arith) (omega arith) .1)) z
       go (some-keys k p r f) = some-listed r
 
+  -- an image without keys
+  pub no-keys-listed : keyCount img ≡ 0 → keysOf img ≡ []
+  no-keys-listed z = go (keysOf img) (listed .keys .count-is ∙ z)
+    where
+      go : (l : List ℕ) → length l ≡ 0 → l ≡ []
+      go [] e = refl
+      go (x ∷ l) e = absurd (omega arith)
+
   pub bands-of : bandsOf (keysOf img) ≡ map (bandLevels img) bands
   unfolding bandsOf imageLevels
   bands-of = ap (bandsIn 8) (listed .levels) ∙ ap (λ (n : ℕ). bandsIn n (flatMap (bandLevels img) bands)) (sym eight) ∙ bands-back (bandLevels img) bands fours

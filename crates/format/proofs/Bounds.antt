@@ -2,7 +2,7 @@
 -- 240, and with each page more there are at least 226 more. Bands 1 to 3 have at most 1, 16 and 256 roots of at most 15 nodes each; no band has
 -- more out-links than there are keys, with at most four nodes for each.
 -- Assumes nothing.
-use mathlib.Core.Path.{_≡_, refl, sym, ap, _∙_, subst}
+use mathlib.Core.Path.{_≡_, sym, ap, _∙_, subst}
 use mathlib.Core.Bool.{true}
 use mathlib.Core.List.{List, [], _∷_, map, map-map}
 use Prim.Native.Nat.{ℕ, _+_, _-_, _*_, _≤_, _<_}

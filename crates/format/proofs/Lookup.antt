@@ -17,7 +17,7 @@ use Rattle.format.proofs.Checked.{Checked, cond-yes, cond-no}
 use Rattle.format.proofs.Descent.{isIn-mem, isIn-not, mem-at, rank-at, halve}
 use Rattle.format.proofs.Levels.{prefixes-asc, prefixes-keys}
 use Rattle.format.proofs.Walk.{reached-off, listed-prefix}
-use Rattle.format.proofs.Depth.{no-keys-listed}
+use Rattle.format.proofs.Back.{no-keys-listed}
 
 -- a key's prefix one bit longer
 pub longer : (key d : ℕ) → d < 32 → key / 2 ^ (32 - suc d) ≡ 2 * (key / 2 ^ (32 - d)) + keyBit key d

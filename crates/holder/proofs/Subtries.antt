@@ -11,7 +11,7 @@ use Rattle.format.specs.Key.{gather, holderOf}
 use Rattle.format.specs.Scan.{holderRecord, isHolders, keysOfHolder, largestRecord}
 use Rattle.format.specs.Seq.{select}
 use Rattle.format.proofs.Accepted.{facts}
-use Rattle.format.proofs.Depth.{no-keys-listed}
+use Rattle.format.proofs.Back.{no-keys-listed}
 use Rattle.format.proofs.Largest.{largest-record-append, largest-record-none}
 use Rattle.pages.specs.Page.{Ready}
 use Rattle.subtries.specs.Spot.{rootPrefix}

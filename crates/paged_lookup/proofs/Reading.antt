@@ -9,12 +9,12 @@ use native.Mathlib.Omega.{arith}
 use native.Mathlib.Decide.{ℕ-discrete, decLt}
 use lib.Dec.{eqb, leb, ltb}
 use borrow.Author.Tests.{eq-eqb, ne-eqb, le-ltb}
-use lib.ListN.{length, getD, take, drop}
+use lib.ListN.{getD, take, drop}
 use lib.Seq.{getD-take, getD-drop, drop-drop}
 use Rattle.format.specs.Seq.{every, lastBelow, numbersFrom, upTo}
 use Rattle.format.specs.Key.{keyOf}
 use Rattle.format.specs.Page.{levelsIn, numberAt, pairsAt, pairsOf}
-use Rattle.format.specs.Image.{bands, nextT, pageB, pageCount, pageLevels, pageNumber, pagePairs, pageRoots, pageT, pageWith, rootCount}
+use Rattle.format.specs.Image.{nextT, pageB, pageCount, pageLevels, pageNumber, pagePairs, pageRoots, pageT, pageWith, rootCount}
 use Rattle.format.specs.Question.{Outcome, andThen, firstNo, headerQuestions, isZero, nodeQuestions, outcome, refused, returns, settle}
 use Rattle.format.specs.Answer.{LookupAnswer, absent}
 use Rattle.format.proofs.LastBelow.{last-same, last-within}

@@ -13,7 +13,7 @@ use Rattle.format.specs.Answer.{inside, memberKeys}
 use Rattle.format.specs.Exact.{Accepted}
 use Rattle.format.specs.Cell.{Covers}
 use Rattle.format.proofs.Accepted.{facts}
-use Rattle.format.proofs.Depth.{no-keys-listed}
+use Rattle.format.proofs.Back.{no-keys-listed}
 use Rattle.format.proofs.Members.{select-short}
 use Rattle.format.proofs.Trie.{Fits}
 use Rattle.walk.specs.declared.block.Place.{Place}
