@@ -57,7 +57,10 @@ typedef struct {
  * Lift and lane numbers are taken as 32 bits, so that one too large is refused and not cut.
  */
 
-/* Refusals of an image, by every function that takes one; 35 is asked after 5, and is among 1 to 13 below. */
+/*
+ * Refusals of an image, by every function that takes one, but 8, 12 and 13 not by lpt_lookup8; 35 is asked after 5, and
+ * is among 1 to 7 and 1 to 13 below.
+ */
 #define LPT_NO_HEADER 1       /* fewer than 64 bytes */
 #define LPT_NO_MARK 2         /* the first bytes are not 4C 50 54 */
 #define LPT_NO_VERSION 3      /* the version is neither 1 nor 2 */
@@ -129,8 +132,9 @@ int64_t lpt_lookup(const uint8_t *img, size_t len, uint16_t holder, uint16_t slo
 
 /*
  * Looks an admission up in one page a band: it asks 1 to 7 of the header, and then reads T of the pages of each band
- * and eight pages. On an image that lpt_check accepts it answers just as lpt_lookup does, in a fraction of the time;
- * damage beside its path it does not see. Returns 1 and fills out, or 0 and leaves out as it was, as lpt_lookup.
+ * and eight pages. On an image that lpt_check accepts it answers just as lpt_lookup does, in a fraction of the time.
+ * Damage beside its path it does not see, and a wrong B it follows into another branch: call lpt_check once before,
+ * when the image is loaded. Returns 1 and fills out, or 0 and leaves out as it was, as lpt_lookup.
  * Refuses with 1 to 7 (35 among them), and in each band with 27, 9, 10, 11, and 28 on leaving it.
  */
 int64_t lpt_lookup8(const uint8_t *img, size_t len, uint16_t holder, uint16_t slot, uint32_t out[9]);
