@@ -6,6 +6,7 @@ pub mod Ways
 pub mod Bands
 pub mod Agreement
 -- what it reads
+pub mod SameBytes
 pub mod SameHeader
 pub mod Reading
 pub mod EightPages

@@ -3,47 +3,27 @@
 use mathlib.Core.Path.{_≡_, refl, sym, ap, ap₂, _∙_, subst}
 use mathlib.Core.Bool.{Bool, true, false, not, cond}
 use mathlib.Core.Option.{Option, none, some}
-use mathlib.Core.List.{List, [], _∷_, _++_, flatMap}
+use mathlib.Core.List.{List, [], _∷_, _++_}
 use Prim.Native.Nat.{ℕ, zero, suc, _+_, _-_, _*_, _≤_, _<_}
 use native.Mathlib.Omega.{arith}
 use native.Mathlib.Decide.{ℕ-discrete, decLt}
 use lib.Dec.{eqb, leb, ltb}
 use borrow.Author.Tests.{eq-eqb, ne-eqb, le-ltb}
-use lib.ListN.{getD, take, drop}
-use lib.Seq.{getD-take, getD-drop, drop-drop}
+use lib.ListN.{take, drop}
 use Rattle.format.specs.Seq.{every, lastBelow, numbersFrom, upTo}
 use Rattle.format.specs.Key.{keyOf}
-use Rattle.format.specs.Page.{levelsIn, numberAt, pairsAt, pairsOf}
+use Rattle.format.specs.Page.{levelsIn, numberAt, pairsAt}
 use Rattle.format.specs.Image.{nextT, pageB, pageCount, pageLevels, pageNumber, pagePairs, pageRoots, pageT, pageWith, rootCount}
 use Rattle.format.specs.Question.{Outcome, andThen, firstNo, headerQuestions, isZero, nodeQuestions, outcome, refused, returns, settle}
 use Rattle.format.specs.Answer.{LookupAnswer, absent}
 use Rattle.format.proofs.LastBelow.{last-same, last-within}
-use Rattle.format.proofs.Lists.{all-upTo, drop-take, every-same}
+use Rattle.format.proofs.Lists.{all-upTo, every-same}
 use Rattle.format.proofs.Checked.{cond-no, cond-yes}
 use Rattle.paged_lookup.specs.Paged.{Way, out, off, follow, hasPage, leaving, linked, pagedAnswer, pagedLookup, rootQuestions, through, walk, wayFrom}
 use Rattle.paged_lookup.specs.EightPages.{Agree, Reads, bytesOfPage}
+use Rattle.paged_lookup.proofs.SameBytes.{number-same, pairs-same}
 use Rattle.paged_lookup.proofs.SameHeader.{keys-same, pages-same, roots-same, due-same, page-number-same, header-same}
 use Rattle.paged_lookup.proofs.Bands.{no-27}
-
--- ---- a page
-
--- the same 64 bytes at a place: the same B and pairs
-module _ (x y : List ℕ) (p : ℕ) (e : take 64 (drop p y) ≡ take 64 (drop p x)) where
-  at-same : (i : ℕ) → i < 64 → getD y (p + i) 0 ≡ getD x (p + i) 0
-  at-same i h =
-      sym (getD-take 64 (drop p y) i 0 h ∙ getD-drop p y i 0) ∙ ap (λ (l : List ℕ). getD l i 0) e ∙ getD-take 64 (drop p x) i 0 h ∙ getD-drop p x i 0
-
-  B-same : numberAt y (p + 2) ≡ numberAt x (p + 2)
-  unfolding numberAt
-  B-same =
-      let n : p + 3 ≡ p + 2 + 1 = omega arith in
-      ap₂ (λ (a b : ℕ). 256 * a + b) (at-same 2 (omega arith)) (ap (λ (i : ℕ). getD y i 0) (sym n) ∙ at-same 3 (omega arith) ∙ ap (λ (i : ℕ). getD x i 0) n)
-
-  pairs-same : pairsAt y p ≡ pairsAt x p
-  pairs-same = ap (flatMap pairsOf) (part y ∙ ap (λ (l : List ℕ). drop 4 l) e ∙ sym (part x))
-    where
-      part : (l : List ℕ) → take 60 (drop (p + 4) l) ≡ drop 4 (take 64 (drop p l))
-      part l = ap (take 60) (sym (drop-drop 4 p l)) ∙ sym (drop-take 4 64 (drop p l))
 
 -- ---- a band
 
@@ -88,7 +68,7 @@ module _ {x y : List ℕ} {page : ℕ → ℕ} (a : Agree x y page) (key b : ℕ
 
       B-is : pageB y b i ≡ pageB x b i
       unfolding pageB
-      B-is = ap (λ (n : ℕ). numberAt y (n + 2)) place ∙ B-same x y (64 * pageNumber x b i) bytes-are
+      B-is = ap (λ (n : ℕ). numberAt y (n + 2)) place ∙ number-same x y (64 * pageNumber x b i) bytes-are (64 * pageNumber x b i + 2) (omega arith) (omega arith)
 
       pairs-are : pagePairs y b i ≡ pagePairs x b i
       unfolding pagePairs

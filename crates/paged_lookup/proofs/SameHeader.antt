@@ -9,7 +9,6 @@ use native.Mathlib.Decide.{decLt}
 use lib.Dec.{eqb, leb, ltb}
 use borrow.Author.Tests.{lt-ltb, le-ltb}
 use lib.ListN.{length, getD, take, drop}
-use lib.Seq.{getD-take}
 use Rattle.format.specs.Seq.{every, numbersFrom, total, upTo}
 use Rattle.format.specs.Page.{numberAt}
 use Rattle.format.specs.Header.{mark}
@@ -17,30 +16,30 @@ use Rattle.format.specs.Image.{bands, keyCount, liftOf, pageCount, pageNumber, 
 use Rattle.format.specs.Question.{countsFit, headerQuestions, isLift, isPositive, isZero, liftRight, markRight, outLinksDue, versionKnown, zerosRight}
 use Rattle.format.proofs.Lists.{all-numbers, all-upTo, drop-take, every-same, map-same}
 use Rattle.format.proofs.Checked.{cond-no, cond-yes}
+use Rattle.paged_lookup.proofs.SameBytes.{byte-same, number-same}
 
 module _ (x y : List ℕ) (e : take 64 y ≡ take 64 x) where
-  byte-same : (i : ℕ) → i < 64 → getD y i 0 ≡ getD x i 0
-  byte-same i h = sym (getD-take 64 y i 0 h) ∙ ap (λ (l : List ℕ). getD l i 0) e ∙ getD-take 64 x i 0 h
+  header-byte : (i : ℕ) → i < 64 → getD y i 0 ≡ getD x i 0
+  header-byte i h = byte-same x y 0 e i (omega arith) (omega arith)
 
-  number-same : (i : ℕ) → i + 1 < 64 → numberAt y i ≡ numberAt x i
-  unfolding numberAt
-  number-same i h = ap₂ (λ (m n : ℕ). 256 * m + n) (byte-same i (omega arith)) (byte-same (i + 1) h)
+  header-number : (i : ℕ) → i + 1 < 64 → numberAt y i ≡ numberAt x i
+  header-number i h = number-same x y 0 e i (omega arith) (omega arith)
 
   pub keys-same : keyCount y ≡ keyCount x
   unfolding keyCount
-  keys-same = number-same 6 (omega arith)
+  keys-same = header-number 6 (omega arith)
 
   version-same : versionOf y ≡ versionOf x
   unfolding versionOf
-  version-same = number-same 3 (omega arith)
+  version-same = header-number 3 (omega arith)
 
   pub pages-same : (b : ℕ) → b ≤ 8 → pageCount y b ≡ pageCount x b
   unfolding pageCount
-  pages-same b h = number-same (4 + 4 * b) (omega arith)
+  pages-same b h = header-number (4 + 4 * b) (omega arith)
 
   pub roots-same : (b : ℕ) → b ≤ 8 → rootCount y b ≡ rootCount x b
   unfolding rootCount
-  roots-same b h = number-same (6 + 4 * b) (omega arith)
+  roots-same b h = header-number (6 + 4 * b) (omega arith)
 
   pub due-same : (b : ℕ) → 1 ≤ b → b ≤ 8 → outLinksDue y b ≡ outLinksDue x b
   unfolding outLinksDue
@@ -64,17 +63,17 @@ module _ (x y : List ℕ) (e : take 64 y ≡ take 64 x) where
   unfolding markRight
   mark-same =
       every-same (λ i. eqb (getD y i 0) (getD mark i 0)) (λ i. eqb (getD x i 0) (getD mark i 0)) (upTo 3)
-      (all-upTo (λ i. eqb (getD y i 0) (getD mark i 0) ≡ eqb (getD x i 0) (getD mark i 0)) 3 (λ i h. ap (λ (n : ℕ). eqb n (getD mark i 0)) (byte-same i (omega arith))))
+      (all-upTo (λ i. eqb (getD y i 0) (getD mark i 0) ≡ eqb (getD x i 0) (getD mark i 0)) 3 (λ i h. ap (λ (n : ℕ). eqb n (getD mark i 0)) (header-byte i (omega arith))))
 
   lift-same : liftOf y ≡ liftOf x
   unfolding liftOf
-  lift-same = ap₂ (λ (v n : ℕ). cond (eqb v 1) 0 n) version-same (number-same 40 (omega arith))
+  lift-same = ap₂ (λ (v n : ℕ). cond (eqb v 1) 0 n) version-same (header-number 40 (omega arith))
 
   zeros-same : zerosRight y ≡ zerosRight x
   unfolding zerosRight
   zeros-same =
       let rest : take 22 (drop 42 y) ≡ take 22 (drop 42 x) = sym (drop-take 42 64 y) ∙ ap (drop 42) e ∙ drop-take 42 64 x in
-      ap₂ _&&_ (ap₂ _&&_ (ap isZero (byte-same 5 (omega arith))) (ap₂ (λ (v n : ℕ). eqb v 2 || isZero n) version-same (number-same 40 (omega arith)))) (ap (every isZero) rest)
+      ap₂ _&&_ (ap₂ _&&_ (ap isZero (header-byte 5 (omega arith))) (ap₂ (λ (v n : ℕ). eqb v 2 || isZero n) version-same (header-number 40 (omega arith)))) (ap (every isZero) rest)
 
   band-counts-same : (test : ℕ → Bool) (s n : ℕ) → s + n ≤ 9 → every (λ b. test (pageCount y b) && test (rootCount y b)) (numbersFrom s n) ≡ every (λ b. test (pageCount x b) && test (rootCount x b)) (numbersFrom s n)
   band-counts-same test s n h =
