@@ -23,7 +23,7 @@ use Rattle.format.proofs.Bytes.{number-small}
 use Rattle.format.proofs.Back.{pagesBefore-suc}
 use Rattle.format.proofs.LastBelow.{last-le}
 use Rattle.header.specs.Refusal.{refusalOf}
-use Rattle.header.proofs.Refusals.{none-refused, refused-outcome}
+use Rattle.header.proofs.Refusals.{refused-outcome}
 use Rattle.checker.specs.Paged.{BandAt}
 use Rattle.paged_lookup.specs.declared.Presence.{Presence}
 use Rattle.paged_lookup.specs.declared.page.Way.the-variants.{Out, Off, Refused}
@@ -193,14 +193,14 @@ module _ {img : List ℕ} {key : ℕ} {pages : List ℕ} {link first passed : �
 
 -- ---- the job
 
-module _ (img : List ℕ) (holder slot : ℕ) {n : ℕ} (e : refusalOf n ≡ firstNo (headerQuestions img)) where
-  pub lookup-refused : (n ≡ 0 → ⊥) → pagedLookup img holder slot ≡ refused n
-  unfolding pagedLookup andThen settle
-  lookup-refused nz = ap (λ o. andThen o (pagedAnswer img)) (ap (λ o. outcome o (keyOf holder slot)) (sym e) ∙ sym (refused-outcome n (keyOf holder slot) nz))
+-- one of 1 to 7 gets a no
+pub lookup-refused : (img : List ℕ) (holder slot : ℕ) {n : ℕ} → refusalOf n ≡ firstNo (headerQuestions img) → (n ≡ 0 → ⊥) → pagedLookup img holder slot ≡ refused n
+unfolding pagedLookup andThen settle
+lookup-refused img holder slot {n} e nz =
+    ap (λ o. andThen o (pagedAnswer img)) (ap (λ o. outcome o (keyOf holder slot)) (sym e) ∙ sym (refused-outcome n (keyOf holder slot) nz))
 
-  pub lookup-yes : n ≡ 0 → HeaderYes img
-  lookup-yes z = none-refused n (headerQuestions img) e z
-
-  pub lookup-done : n ≡ 0 → {key : ℕ} → key ≡ keyOf holder slot → (answer : Presence) (pages : List ℕ) → AnswerIs (pagedAnswer img key) answer pages → AnswerIs (pagedLookup img holder slot) answer pages
-  unfolding pagedLookup andThen
-  lookup-done z ek answer pages a = (a .0 ∙ ap (pagedAnswer img) ek ∙ sym (ap (λ o. andThen o (pagedAnswer img)) (settle-yes (headerQuestions img) (keyOf holder slot) (lookup-yes z))), a .1)
+-- they get a yes
+pub lookup-done : (img : List ℕ) (holder slot : ℕ) → HeaderYes img → {key : ℕ} → key ≡ keyOf holder slot → (answer : Presence) (pages : List ℕ) → AnswerIs (pagedAnswer img key) answer pages → AnswerIs (pagedLookup img holder slot) answer pages
+unfolding pagedLookup andThen
+lookup-done img holder slot yes-7 ek answer pages a =
+    (a .0 ∙ ap (pagedAnswer img) ek ∙ sym (ap (λ o. andThen o (pagedAnswer img)) (settle-yes (headerQuestions img) (keyOf holder slot) yes-7)), a .1)
