@@ -16,25 +16,25 @@ use Rattle.checker.specs.Paged.{rootsFrom, questionsAfter, questionsAt, 
 -- ---- 9
 
 -- no root, or more than 60
-pub not-nine : (t next : ℕ) → rootsFrom t next ≡ 0 → oneTo 60 (next - t) ≡ false
+pub roots-no : (t next : ℕ) → rootsFrom t next ≡ 0 → oneTo 60 (next - t) ≡ false
 unfolding rootsFrom
-not-nine t next e = go (oneTo 60 (next - t)) refl e
+roots-no t next e = go (oneTo 60 (next - t)) refl e
   where
     go : (x : Bool) → oneTo 60 (next - t) ≡ x → cond x (next - t) 0 ≡ 0 → x ≡ false
     go false f g = refl
     go true f g = absurd (omega (arith, range-of 60 (next - t) f))
 
 -- 1 to 60
-pub record Nine (t next roots : ℕ) : Type 0 where
+pub record RootsYes (t next roots : ℕ) : Type 0 where
   pub is : roots ≡ next - t
   pub some : 1 ≤ roots
   pub few : roots ≤ 60
 
-pub nine : (t next : ℕ) {roots : ℕ} → roots ≡ rootsFrom t next → (roots ≡ 0 → ⊥) → Nine t next roots
+pub roots-yes : (t next : ℕ) {roots : ℕ} → roots ≡ rootsFrom t next → (roots ≡ 0 → ⊥) → RootsYes t next roots
 unfolding rootsFrom
-nine t next {roots} e nz = go (oneTo 60 (next - t)) refl e
+roots-yes t next {roots} e nz = go (oneTo 60 (next - t)) refl e
   where
-    go : (x : Bool) → oneTo 60 (next - t) ≡ x → roots ≡ cond x (next - t) 0 → Nine t next roots
+    go : (x : Bool) → oneTo 60 (next - t) ≡ x → roots ≡ cond x (next - t) 0 → RootsYes t next roots
     go false f g = absurd (nz g)
     go true f g = let r = range-of 60 (next - t) f in record { is = g; some = omega arith; few = omega arith }
 
@@ -72,7 +72,7 @@ module _ (img : List ℕ) (at t b next previous : ℕ) where
 
         pub no-roots : {roots : ℕ} → roots ≡ rootsFrom t next → roots ≡ 0 → some 9 ≡ firstNo (questionsAt img at t b next previous)
         unfolding questionsAfter questionsFrom9 nodeQuestions
-        no-roots e z = sym (past-8 ∙ asked-no 9 _ _ (not-nine t next (sym e ∙ z)))
+        no-roots e z = sym (past-8 ∙ asked-no 9 _ _ (roots-no t next (sym e ∙ z)))
 
         pub by-shape : {roots : ℕ} → roots ≡ next - t → (s : Shape) → Asked (questionsAfter img at roots previous) (pairsAt img at) roots s
             → Asked (questionsAt img at t b next previous) (pairsAt img at) (next - t) s

@@ -1,7 +1,7 @@
 -- `checker::page::check_page` meets its contract: at each return the questions before got a yes. Assumes nothing.
 use borrow.Author.Needs.{needs}
 use Rattle.checker.proofs.Shapes.{refused-page}
-use Rattle.checker.proofs.Pages.{wrong-t, wrong-b, no-roots, nine, by-shape}
+use Rattle.checker.proofs.Pages.{wrong-t, wrong-b, no-roots, roots-yes, by-shape}
 use Rattle.checker.proofs.page.check_page.Statement.{statement}
 use Rattle.checker.proofs.page.check_page.Tie as tie
 
@@ -23,14 +23,14 @@ check-shape-requires : tie.Need-check-shape-requires
 check-shape-requires c κs =
     let r = c .before in
     let p = r .before .before .before .before .before .before .before .before .pre in
-    let k = nine _ _ (r .roots-from .ensures) (c .if3 .left) in
+    let k = roots-yes _ _ (r .roots-from .ensures) (c .if3 .left) in
     (p .0, k .some, k .few, p .1)
 
 returns-4 : tie.Need-returns-4
 returns-4 c =
     let r = c .before .before in
     let m = r .before .before .before in
-    by-shape _ _ _ _ _ _ _ (m .before .before .before .number .ensures .0) (m .before .if1 .left) _ (m .number2 .ensures .0) (r .before .if2 .left) (nine _ _ (r .roots-from .ensures) (c .before .if3 .left) .is) _ (c .check-shape .ensures)
+    by-shape _ _ _ _ _ _ _ (m .before .before .before .number .ensures .0) (m .before .if1 .left) _ (m .number2 .ensures .0) (r .before .if2 .left) (roots-yes _ _ (r .roots-from .ensures) (c .before .if3 .left) .is) _ (c .check-shape .ensures)
 
 pub check-page-spec : {M : Type 1} → statement M
 check-page-spec =

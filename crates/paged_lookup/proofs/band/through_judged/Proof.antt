@@ -4,7 +4,7 @@ use Prim.Native.Nat.{ℕ, _+_, _-_, _*_, _≤_, _<_}
 use native.Mathlib.Omega.{arith}
 use borrow.Author.Needs.{needs}
 use lib.ListN.{length}
-use Rattle.checker.proofs.Pages.{Nine, nine, not-nine}
+use Rattle.checker.proofs.Pages.{RootsYes, roots-yes, roots-no}
 use Rattle.paged_lookup.proofs.Finding.{PageFound, band-fits, none-found, index-in, found}
 use Rattle.paged_lookup.proofs.Steps.{step-none, step-nine, root-in, step-left}
 use Rattle.paged_lookup.proofs.band.through_judged.Statement.{statement}
@@ -36,8 +36,8 @@ page c =
 abbrev n : tie.Else2 → tie.After-next-root
 n c = c .before .before
 
-roots : (c : tie.Else2) → Nine (n c .before .before .number .result) (n c .next-root .result .0) (c .before .roots-from .result)
-roots c = nine _ _ (c .before .roots-from .ensures) (c .if2 .left)
+roots : (c : tie.Else2) → RootsYes (n c .before .before .number .result) (n c .next-root .result .0) (c .before .roots-from .result)
+roots c = roots-yes _ _ (c .before .roots-from .ensures) (c .if2 .left)
 
 inner : (c : tie.Else2)
     → (n c .before .before .number .result ≤ start (e (n c)) .args .root .0) × (start (e (n c)) .args .root .0 - n c .before .before .number .result < n c .next-root .result .0 - n c .before .before .number .result)
@@ -53,7 +53,7 @@ returns-2 : tie.Need-returns-2
 returns-2 c =
     let m = c .before .before .before in
     let r = c .before .before .roots-from .ensures in
-    step-nine _ _ _ _ _ (page m) (not-nine _ _ (sym r ∙ c .before .if2 .taken)) (c .refused2 .ensures)
+    step-nine _ _ _ _ _ (page m) (roots-no _ _ (sym r ∙ c .before .if2 .taken)) (c .refused2 .ensures)
 
 through-page-requires : tie.Need-through-page-requires
 through-page-requires c κs =
