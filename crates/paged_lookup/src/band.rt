@@ -110,7 +110,7 @@ fn through_accepted(image: &[u8], band: usize, first: usize, root: Root, key: u3
     }
 }
 
-// The way of a key through band `band` from a root; `accepted` says that the image is known to be.
+// The way of a key through band `band` from a root; where `accepted` is true the image is accepted, and the page is not judged again.
 pub(crate) fn through(
     image: &[u8],
     band: usize,

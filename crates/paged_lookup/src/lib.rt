@@ -43,7 +43,7 @@ pub fn no_pages(answer: Presence) -> Found
     }
 }
 
-// The walk of a key from band to band, in an image whose 1 to 7 get a yes; `accepted` says that it is known to be.
+// The walk of a key from band to band, in an image whose 1 to 7 get a yes; where `accepted` is true all of 1 to 13 do, and no page is judged again.
 fn walk(image: &[u8], key: u32, accepted: bool) -> Found
     requires { ⌜ (HeaderYes (now image)) × (accepted ≡ true → Accepted (now image)) ⌝ }
     ensures { λ r. ⌜ (lookupOutcome (r .answer) (r .pages) ≡ pagedAnswer (now (image .entry)) key) × (NoPages (r .answer) (r .pages)) ⌝ }
