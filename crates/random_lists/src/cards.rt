@@ -61,7 +61,7 @@ pub fn scan_card(
 }
 
 // The first of a holder's ranks from `from` on; the number of keys where there is none.
-fn rank_from(keys: &[u32], from: usize, holder: u32) -> usize {
+fn rank_from(keys: &[u32], from: usize, holder: u16) -> usize {
     let mut i = from;
     while i < keys.len() {
         if holder_of(keys[i]) == holder {

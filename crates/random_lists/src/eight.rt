@@ -54,23 +54,14 @@ pub fn key_at(keys: &[u32], rank: usize) -> u32 {
     0
 }
 
-// The holder and the slot of a key.
-pub fn key_holder(key: u32) -> u16 {
-    (holder_of(key) % 65536) as u16
-}
-
-pub fn key_slot(key: u32) -> u16 {
-    (slot_of(key) % 65536) as u16
-}
-
 // Lookups in a damaged image of the keys: of a rank's admission, of two beside it, which are often not listed, and of one of a smaller rank.
 pub fn ask_damaged(tally: Tally, image: &[u8], keys: &[u32], rank: usize) -> Tally {
     let key = key_at(keys, rank);
-    let holder = key_holder(key);
-    let slot = key_slot(key);
+    let holder = holder_of(key);
+    let slot = slot_of(key);
     let smaller = key_at(keys, rank / 8);
     let mut t = ask(tally, image, holder, slot);
     t = ask(t, image, holder ^ 1, slot);
     t = ask(t, image, holder, slot ^ 4);
-    ask(t, image, key_holder(smaller), key_slot(smaller))
+    ask(t, image, holder_of(smaller), slot_of(smaller))
 }

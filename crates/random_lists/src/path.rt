@@ -8,16 +8,16 @@ use crate::damage::flip;
 use crate::damage::place;
 use crate::damage::swap;
 use crate::eight::key_at;
-use crate::eight::key_holder;
-use crate::eight::key_slot;
 use crate::plain::first_page;
 use crate::steps;
 use crate::tally::Tally;
 use testing::Random;
+use testing::holder_of;
+use testing::slot_of;
 
 // The page that the admission of a key reads in a band, counted from 0; 0 where it is not listed.
 fn page_on_path(image: &[u8], key: u32, band: usize) -> usize {
-    let found = steps::lookup(image, key_holder(key), key_slot(key));
+    let found = steps::lookup(image, holder_of(key), slot_of(key));
     let pages = found.pages;
     pages[band % 8] as usize
 }

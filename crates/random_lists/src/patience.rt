@@ -96,7 +96,7 @@ fn has_other_holders(keys: &[u32]) -> bool {
     if keys.len() == 0 {
         return false;
     }
-    let holder = (holder_of(keys[0]) % 65536) as u16;
+    let holder = holder_of(keys[0]);
     let own = rectangle(holder, holder, 0, 65535);
     count_inside(keys, keys.len(), own) < keys.len()
 }

@@ -53,7 +53,7 @@ fn holder_record(keys: &[u32], records: &[u32], holder: u16) -> u32 {
     let mut largest: u32 = 0;
     let mut i: usize = 0;
     while i < keys.len() {
-        if holder_of(keys[i]) == holder as u32 {
+        if holder_of(keys[i]) == holder {
             largest = larger(largest, record_of(records, i));
         }
         i += 1;

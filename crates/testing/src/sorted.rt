@@ -29,7 +29,7 @@ pub fn key_of(holder: u16, slot: u16) -> u32 {
 }
 
 // Every second bit of `key`, from bit 0 on.
-fn even_bits(key: u32) -> u32 {
+fn even_bits(key: u32) -> u16 {
     let mut left = key as u64;
     let mut bits: u64 = 0;
     let mut unit: u64 = 1;
@@ -40,16 +40,16 @@ fn even_bits(key: u32) -> u32 {
         unit = unit * 2 % 65536;
         i += 1;
     }
-    bits as u32
+    bits as u16
 }
 
 // The holder of a key.
-pub fn holder_of(key: u32) -> u32 {
+pub fn holder_of(key: u32) -> u16 {
     even_bits(key / 2)
 }
 
 // The slot of a key.
-pub fn slot_of(key: u32) -> u32 {
+pub fn slot_of(key: u32) -> u16 {
     even_bits(key)
 }
 
@@ -59,16 +59,16 @@ pub fn is_inside(key: u32, rectangle: Rectangle) -> bool {
     let slot = slot_of(key);
     let holders = rectangle.holders;
     let slots = rectangle.slots;
-    if holder < holders.low as u32 {
+    if holder < holders.low {
         return false;
     }
-    if (holders.high as u32) < holder {
+    if holders.high < holder {
         return false;
     }
-    if slot < slots.low as u32 {
+    if slot < slots.low {
         return false;
     }
-    slot <= slots.high as u32
+    slot <= slots.high
 }
 
 // How many of the first `n` keys are smaller.
