@@ -134,7 +134,7 @@ mem-at (x ∷ l) (suc i) h = List·Memᴰ·tail (mem-at l i (omega arith))
 
 -- rank: the index of an element is the count of smaller elements
 
-rank-none : (x y : ℕ) (l : List ℕ) → x ≤ y → Above y l → rankIn l x ≡ 0
+pub rank-none : (x y : ℕ) (l : List ℕ) → x ≤ y → Above y l → rankIn l x ≡ 0
 unfolding rankIn select consIf
 rank-none x y [] h a = refl
 rank-none x y (z ∷ l) h a = rw (le-ltb z x (omega (arith, a .0))) (rank-none x z l (omega (arith, a .0)) (a .1))

@@ -153,6 +153,15 @@ module _ (img : List ℕ) (a : All Byte img) (c : Checked img) (some : 1 ≤ key
       unfolding pageLevels pageNodes
       pairs-split = levels-join 4 (pageRoots img b i) (pagePairs img b i)
 
+      -- the on bits of the band's level l before node j of the page's, or its end: those of the earlier pages, and those before it in the page
+      pub before-in : (l j : ℕ) → l < 4 → j ≤ length (getD (pageLevels img b i) l [])
+          → onBits (take (before img b l i + j) (levelAt img (depth b l))) ≡ total (map (λ k. onBits (getD (pageLevels img b k) l [])) (numbersFrom 0 i)) + onBits (take j (getD (pageLevels img b i) l []))
+      unfolding before bandLevel upTo
+      before-in l j lv inner =
+          ap (λ (ns : List ℕ). onBits (take (before img b l i + j) ns)) (level-of-band l lv)
+          ∙ run-before (λ k. getD (pageLevels img b k) l []) 0 (pageCount img b) i j in-band (rw (zero-add i) inner)
+          ∙ ap (λ (k : ℕ). total (map (λ k. onBits (getD (pageLevels img b k) l [])) (numbersFrom 0 i)) + onBits (take j (getD (pageLevels img b k) l []))) (zero-add i)
+
       -- node j of level l of the page: its place and its index in the band
       module _ (l j : ℕ) (lv : l < 4) (inner : j < length (getD (pageLevels img b i) l [])) where
         pub node-is : getD (pagePairs img b i) (offset l (pageLevels img b i) + j) 0 ≡ getD (getD (pageLevels img b i) l []) j 0
@@ -185,14 +194,7 @@ module _ (img : List ℕ) (a : All Byte img) (c : Checked img) (some : 1 ≤ key
         unfolding pageLevels
         child-at-place t = row-child (pagePairs img b i) (pageRoots img b i) shaped l j lv inner t
 
-        first-index : onBits (take (before img b l i + j) (levelAt img (depth b l))) ≡ total (map (λ k. onBits (getD (pageLevels img b k) l [])) (numbersFrom 0 i)) + onBits (take j (getD (pageLevels img b i) l []))
-        unfolding before bandLevel upTo
-        first-index =
-            ap (λ (ns : List ℕ). onBits (take (before img b l i + j) ns)) (level-of-band l lv)
-            ∙ run-before (λ k. getD (pageLevels img b k) l []) 0 (pageCount img b) i j in-band (let m : j < length (getD (pageLevels img b (0 + i)) l []) = rw (zero-add i) inner in omega arith)
-            ∙ ap (λ (k : ℕ). total (map (λ k. onBits (getD (pageLevels img b k) l [])) (numbersFrom 0 i)) + onBits (take j (getD (pageLevels img b k) l []))) (zero-add i)
-
         -- and its index in the next level
         pub child-at-index : (t : ℕ) → childAt (levelAt img (depth b l)) (before img b l i + j) t ≡ total (map (λ k. onBits (getD (pageLevels img b k) l [])) (numbersFrom 0 i)) + childAt (getD (pageLevels img b i) l []) j t
-        child-at-index zero = first-index
-        child-at-index (suc t) = omega (arith, first-index, node-index)
+        child-at-index zero = before-in l j lv (omega arith)
+        child-at-index (suc t) = omega (arith, before-in l j lv (omega arith), node-index)
