@@ -33,9 +33,9 @@ extern "C" {
 /*
  * The version of this interface: one more whenever a declaration here changes, one is added, or a function answers
  * otherwise than before. Since 5, lpt_scan asks 25 and 26 of the holder, not of the one admission; since 6 there is
- * lpt_lookup8.
+ * lpt_lookup8; since 7 both lookups fill out[0] where they return 0.
  */
-#define LPT_API_VERSION 6
+#define LPT_API_VERSION 7
 
 /* An admission: a holder and a half-day slot. */
 typedef struct {
@@ -78,7 +78,7 @@ typedef struct {
 
 /* Refusals of the eight-page lookup, by lpt_lookup8, beside 1 to 7, 9, 10 and 11: they come of damage. */
 #define LPT_NO_PAGE 27        /* no page of a band has a T at or below the root's number */
-#define LPT_NO_NUMBER 28      /* the number out of a band is not below the next band's root count, or the key count */
+#define LPT_NO_NUMBER 28      /* the number out of a band does not fit the next band's root count, or the key count */
 
 /* Refusals of a list, by lpt_write and lpt_write_keys, after LPT_NO_LIFT. Number 16 is not used. */
 #define LPT_NO_MORE 14        /* more than 4,096 admissions */
@@ -126,7 +126,8 @@ int64_t lpt_lift(const uint8_t *img, size_t len);
 
 /*
  * Looks an admission up. Returns 1 and fills out[0] with its rank and out[1] to out[8] with the numbers of the
- * eight pages on its path, or returns 0 where it is not listed and leaves out as it was. Refuses with 1 to 13.
+ * eight pages on its path. Where it is not listed returns 0 and fills out[0] with the number of listed admissions that
+ * have a smaller key, the rank that it would have; out[1] to out[8] stay as they were. Refuses with 1 to 13.
  */
 int64_t lpt_lookup(const uint8_t *img, size_t len, uint16_t holder, uint16_t slot, uint32_t out[9]);
 
@@ -134,8 +135,9 @@ int64_t lpt_lookup(const uint8_t *img, size_t len, uint16_t holder, uint16_t slo
  * Looks an admission up in one page a band: it asks 1 to 7 of the header, and then reads T of the pages of each band
  * and eight pages. On an image that lpt_check accepts it answers just as lpt_lookup does, in a fraction of the time.
  * Damage beside its path it does not see, and a wrong B it follows into another branch: call lpt_check once before,
- * when the image is loaded. Returns 1 and fills out, or 0 and leaves out as it was, as lpt_lookup.
- * Refuses with 1 to 7 (35 among them), and in each band with 27, 9, 10, 11, and 28 on leaving it.
+ * when the image is loaded. Returns 1 or 0 and fills out as lpt_lookup does.
+ * Refuses with 1 to 7 (35 among them), and in each band with 27, 9, 10, 11, and 28 on leaving it; where the admission is
+ * not listed too, in the bands from which the number of smaller keys comes.
  */
 int64_t lpt_lookup8(const uint8_t *img, size_t len, uint16_t holder, uint16_t slot, uint32_t out[9]);
 

@@ -51,8 +51,8 @@ pub fn is_answer(scanned: Scanned, refusal: u8, rank: usize) -> bool {
 fn number_of(answer: Presence) -> u64 {
     match answer {
         Presence::Refused(n) => n as u64,
-        Presence::Absent => 256,
-        Presence::Listed(rank) => 257 + rank as u64,
+        Presence::Absent(smaller) => 256 + smaller as u64,
+        Presence::Listed(rank) => 256 * 4294967296 + rank as u64,
     }
 }
 

@@ -4,6 +4,7 @@ use mathlib.Core.List.{List, _∷_}
 use mathlib.Core.Path.{_≡_}
 use Prim.Native.Nat.{ℕ, _+_, _*_}
 use lib.IntN.{ℤ, pos, negℤ}
+use lib.ListN.{set}
 use Rattle.format.specs.declared.Admission.{Admission}
 use Rattle.format.specs.declared.Rectangle.{Rectangle}
 use Rattle.format.specs.Writer.{write, bufferAfterWrite}
@@ -19,13 +20,13 @@ encoded (refused n) = negℤ (pos n)
 -- lookup: 1 where the admission is listed, 0 where it is absent
 abbrev pub encodedLookup : Outcome LookupAnswer → ℤ
 encodedLookup (returns (listed rank pages)) = pos 1
-encodedLookup (returns absent) = pos 0
+encodedLookup (returns (absent smaller)) = pos 0
 encodedLookup (refused n) = negℤ (pos n)
 
--- and the nine places: the rank and the page numbers where it is listed, else what they held
+-- and the nine places: the rank and the page numbers where it is listed; where it is absent the number of smaller keys in the first; else what they held
 abbrev pub lookupBuffer : Outcome LookupAnswer → List ℕ → List ℕ
 lookupBuffer (returns (listed rank pages)) buffer = rank ∷ pages
-lookupBuffer (returns absent) buffer = buffer
+lookupBuffer (returns (absent smaller)) buffer = set buffer 0 smaller
 lookupBuffer (refused n) buffer = buffer
 
 -- a holder and a slot in one number

@@ -137,7 +137,7 @@ fn fill(out: &mut [u32; 9], rank: u32, pages: [u32; 8])
     ];
 }
 
-// What a lookup found: 1 with the nine places filled, 0, or a refusal.
+// What a lookup found: 1 with the nine places filled, 0 with the first filled, or a refusal.
 fn looked_up(found: Found, out: &mut [u32; 9]) -> i64
     ensures { λ r. ⌜ (r ≡ encodedLookup (lookupOutcome (found .answer) (found .pages))) × (now (out .exit) ≡ lookupBuffer (lookupOutcome (found .answer) (found .pages)) (now (out .entry))) ⌝ }
 {
@@ -148,7 +148,8 @@ fn looked_up(found: Found, out: &mut [u32; 9]) -> i64
             fill(out, rank, pages);
             return 1;
         }
-        Presence::Absent => {
+        Presence::Absent(smaller) => {
+            out[0] = smaller;
             return 0;
         }
         Presence::Refused(n) => {

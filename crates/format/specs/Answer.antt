@@ -1,6 +1,6 @@
 -- What each job on an image returns, and what it leaves in the lent buffers.
 -- Assumes nothing.
-use Prim.Native.Nat.{ℕ, _+_, _-_, _*_, _/_, _^_}
+use Prim.Native.Nat.{ℕ, _-_, _*_, _/_, _^_}
 use mathlib.Core.Bool.{Bool, _&&_, cond}
 use mathlib.Core.List.{List, [], _∷_, _++_, map}
 use lib.Dec.{leb, ltb}
@@ -21,11 +21,11 @@ check img = settle (imageQuestions img) (keyCount img)
 unfoldable pub lift : List ℕ → Outcome ℕ
 lift img = settle (imageQuestions img) (liftOf img)
 
--- ---- lookup: the rank and the eight page numbers on the key's path, or absent
+-- ---- lookup: the rank and the eight page numbers on the key's path, or absent with the number of listed admissions that have a smaller key
 
 pub data LookupAnswer : Type 0 where
   listed : ℕ → List ℕ → LookupAnswer
-  absent : LookupAnswer
+  absent : ℕ → LookupAnswer
 
 -- the number of the key's root in band b: the rank of the key's first bits among the prefixes at the band's first level
 unfoldable pub rootOf : List ℕ → ℕ → ℕ → ℕ
@@ -36,7 +36,9 @@ unfoldable pub pageOf : List ℕ → ℕ → ℕ → ℕ
 pageOf img key b = pageNumber img b (pageWith img b (rootOf img key b))
 
 unfoldable pub lookupAnswer : List ℕ → ℕ → LookupAnswer
-lookupAnswer img key = cond (isIn key (keysOf img)) (listed (rankIn (keysOf img) key) (map (pageOf img key) bands)) absent
+lookupAnswer img key =
+    let smaller = rankIn (keysOf img) key in
+    cond (isIn key (keysOf img)) (listed smaller (map (pageOf img key) bands)) (absent smaller)
 
 unfoldable pub lookup : List ℕ → ℕ → ℕ → Outcome LookupAnswer
 lookup img holder slot = settle (imageQuestions img) (lookupAnswer img (keyOf holder slot))

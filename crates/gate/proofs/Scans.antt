@@ -50,7 +50,7 @@ module _ (img : List ℕ) (holder slot : ℕ) where
     unfolding lookup
     image-yes = yes-of-returns (imageQuestions img) (lookupAnswer img key) answer e .0
 
-    answer-is : cond (isIn key (keysOf img)) (listed rank-of (map (pageOf img key) bands)) absent ≡ answer
+    answer-is : cond (isIn key (keysOf img)) (listed rank-of (map (pageOf img key) bands)) (absent rank-of) ≡ answer
     unfolding lookup lookupAnswer
     answer-is = yes-of-returns (imageQuestions img) (lookupAnswer img key) answer e .1
 
@@ -61,10 +61,10 @@ module _ (img : List ℕ) (holder slot : ℕ) where
     image-accepted a = accepted-of-yes img a image-yes
 
   -- absent: not in the list
-  off : lookup img holder slot ≡ returns absent → isIn key (keysOf img) ≡ false
-  off e = go (isIn key (keysOf img)) (answer-is absent e)
+  off : (smaller : ℕ) → lookup img holder slot ≡ returns (absent smaller) → isIn key (keysOf img) ≡ false
+  off smaller e = go (isIn key (keysOf img)) (answer-is (absent smaller) e)
     where
-      go : (t : Bool) → cond t (listed rank-of (map (pageOf img key) bands)) absent ≡ absent → t ≡ false
+      go : (t : Bool) → cond t (listed rank-of (map (pageOf img key) bands)) (absent rank-of) ≡ absent smaller → t ≡ false
       go true d = absurd (let z : _≡_ {A = ℕ} 0 1 = cc in omega arith)
       go false d = refl
 
@@ -73,7 +73,7 @@ module _ (img : List ℕ) (holder slot : ℕ) where
     on : (isIn key (keysOf img) ≡ true) × (rank-of ≡ rank)
     on = go (isIn key (keysOf img)) (answer-is (listed rank pages) e)
       where
-        go : (t : Bool) → cond t (listed rank-of (map (pageOf img key) bands)) absent ≡ listed rank pages → (t ≡ true) × (rank-of ≡ rank)
+        go : (t : Bool) → cond t (listed rank-of (map (pageOf img key) bands)) (absent rank-of) ≡ listed rank pages → (t ≡ true) × (rank-of ≡ rank)
         go true d = (refl, cc)
         go false d = absurd (let z : _≡_ {A = ℕ} 0 1 = cc in omega arith)
 
@@ -126,11 +126,11 @@ module _ (lift : ℕ) (img records : List ℕ) (lane holder slot time lockout : 
     gate-passed z = scan-is ∙ ap (λ o. outcome o own-rank) (passed-first refusal _ asked (lockoutQuestions (holderRecord img records (holderOf own-key)) time lockout) z)
 
   -- an admission that is not listed: 24 at the latest
-  pub scanned-absent : (refusal : ℕ) → lookup img holder slot ≡ returns absent → refusalOf refusal ≡ firstNo (gateQuestions (liftFits lift img) (keyCount img) records lane false time)
+  pub scanned-absent : (refusal smaller : ℕ) → lookup img holder slot ≡ returns (absent smaller) → refusalOf refusal ≡ firstNo (gateQuestions (liftFits lift img) (keyCount img) records lane false time)
       → Done (refused refusal) records
   unfolding gateQuestions
-  scanned-absent refusal e first =
-      gate-refused absent e false (off img holder slot e) refusal first (λ z. let absent-in : false ≡ true = yes-of-none _ (none-refused refusal _ first z) .1 .1 .1 .1 .1 .0 in let w : _≡_ {A = ℕ} 0 1 = cc in omega arith)
+  scanned-absent refusal smaller e first =
+      gate-refused (absent smaller) e false (off img holder slot smaller e) refusal first (λ z. let absent-in : false ≡ true = yes-of-none _ (none-refused refusal _ first z) .1 .1 .1 .1 .1 .0 in let w : _≡_ {A = ℕ} 0 1 = cc in omega arith)
 
   -- a listed one
   module _ (rank : ℕ) (pages : List ℕ) (e : lookup img holder slot ≡ returns (listed rank pages)) (refusal : ℕ)

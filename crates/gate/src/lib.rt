@@ -151,7 +151,7 @@ pub fn scan(
         Presence::Refused(n) => {
             return Scanned::Refused(n);
         }
-        Presence::Absent => {
+        Presence::Absent(_) => {
             return Scanned::Refused(gate_refusal(image, records, lane, lift, false, time));
         }
         Presence::Listed(rank) => {

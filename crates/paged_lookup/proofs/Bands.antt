@@ -1,125 +1,176 @@
 -- The eight-page lookup in a band: its questions one by one, and on an accepted image its way, which is the key's.
 -- Assumes nothing.
-use mathlib.Core.Path.{_≡_, sym, ap, ap₂, _∙_, subst}
-use mathlib.Core.Bool.{true, false}
-use mathlib.Core.Option.{some}
+use mathlib.Core.Path.{_≡_, refl, sym, ap, _∙_, subst}
+use mathlib.Core.Bool.{Bool, true, false}
 use mathlib.Core.List.{List, [], _∷_}
-use Prim.Native.Nat.{ℕ, _+_, _-_, _*_, _/_, _^_, _≤_, _<_}
+use Prim.Native.Nat.{ℕ, suc, _+_, _-_, _*_, _/_, _^_, _≤_, _<_}
 use native.Mathlib.Omega.{arith}
 use lib.Dec.{ltb}
-use borrow.Author.Tests.{lt-ltb, le-ltb, ltb-true}
-use lib.ListN.{length, getD}
+use borrow.Author.Tests.{le-leb, le-ltb, leb-true, lt-leb, lt-ltb, ltb-true, ne-eqb}
+use lib.ListN.{length, getD, take}
+use Rattle.format.specs.Seq.{rankIn}
+use Rattle.format.specs.Trie.{onBits}
 use Rattle.format.specs.Image.{depth, pageB, pageLevels, pageNumber, pagePairs, pageRoots, pageT, pageWith, prefixesAt, rootCount}
+use Rattle.format.specs.Place.{before}
 use Rattle.format.specs.Question.{Outcome, andThen, nodeQuestions, outLinksDue, outcome, refused, returns, settle}
-use Rattle.format.specs.Answer.{absent, lookupAnswer, pageOf}
-use Rattle.format.specs.Place.{Reached}
+use Rattle.format.specs.Answer.{pageOf, rootOf}
 use Rattle.format.proofs.Questions.{asked-no, asked-yes, none-of-yes, yes-of-none}
 use Rattle.format.proofs.Jobs.{settle-no, settle-yes, yes-of-returns}
 use Rattle.format.proofs.NodeQuestions.{of-nodes}
-use Rattle.format.proofs.Checked.{page-nodes}
-use Rattle.format.proofs.Read.{next-roots}
-use Rattle.format.proofs.Walk.{reached-root, roots-count, root-is}
+use Rattle.format.proofs.Checked.{cond-yes, page-nodes}
+use Rattle.format.proofs.Read.{next-roots, page-roots}
+use Rattle.format.proofs.Levels.{before-roots}
+use Rattle.format.proofs.Walk.{root-is}
 use Rattle.pages.specs.Page.{Ready}
-use Rattle.pages.specs.Prefix.{AtPrefix}
 use Rattle.pages.proofs.Pages.{bytes, checked, some-pages}
 use Rattle.pages.proofs.Counts.{links-count}
-use Rattle.paged_lookup.specs.Paged.{Way, out, off, follow, hasPage, rootQuestions, leaving, linked, through, wayFrom}
+use Rattle.paged_lookup.specs.Paged.{Way, out, off, allSmaller, follow, hasPage, isBelow, leaving, number, renumbered, rootQuestions, step, through, wayFrom}
+use Rattle.paged_lookup.specs.Way.{wayAt}
 use Rattle.paged_lookup.proofs.LastPages.{LastAt, last-page, page-there, root-before}
-use Rattle.paged_lookup.proofs.Ways.{WayRight, way-right}
+use Rattle.paged_lookup.proofs.Ways.{Below, Stands, stands-below, stands-out}
 
 -- ---- questions
 
 -- 28
-module _ (img : List ℕ) (b n : ℕ) where
-  pub leave-yes : n < outLinksDue img b → leaving img b (out n) ≡ returns (out n)
-  unfolding leaving
-  leave-yes h = settle-yes ((28, ltb n (outLinksDue img b)) ∷ []) (out n) (none-of-yes ((28, ltb n (outLinksDue img b)) ∷ []) (lt-ltb n (outLinksDue img b) h, tt))
+pub is-below : (m : ℕ) (way : Way) → Below m way → isBelow m way ≡ true
+unfolding isBelow
+is-below m (out n) h = lt-ltb n m h
+is-below m (off n) h = le-leb n m h
 
-  pub leave-no : outLinksDue img b ≤ n → leaving img b (out n) ≡ refused 28
-  unfolding leaving
-  leave-no h = settle-no ((28, ltb n (outLinksDue img b)) ∷ []) (out n) 28 (asked-no 28 _ [] (le-ltb n (outLinksDue img b) h))
+pub not-below : (m : ℕ) (way : Way) → (Below m way → ⊥) → isBelow m way ≡ false
+unfolding isBelow
+not-below m (out n) f = le-ltb n m (omega (arith, f))
+not-below m (off n) f = lt-leb n m (omega (arith, f))
 
--- a number with which a band is left is below those due
-pub left-below : (img : List ℕ) (b n : ℕ) (o : Outcome Way) → andThen o (leaving img b) ≡ returns (out n) → n < outLinksDue img b
+below-is : (m : ℕ) (way : Way) → isBelow m way ≡ true → Below m way
+unfolding isBelow
+below-is m (out n) e = ltb-true n m e
+below-is m (off n) e = leb-true n m e
+
+module _ (img : List ℕ) (b : ℕ) (way : Way) where
+  pub leave-yes : isBelow (outLinksDue img b) way ≡ true → leaving img b way ≡ returns way
+  unfolding leaving
+  leave-yes e = settle-yes ((28, isBelow (outLinksDue img b) way) ∷ []) way (none-of-yes ((28, isBelow (outLinksDue img b) way) ∷ []) (e, tt))
+
+  pub leave-no : isBelow (outLinksDue img b) way ≡ false → leaving img b way ≡ refused 28
+  unfolding leaving
+  leave-no e = settle-no ((28, isBelow (outLinksDue img b) way) ∷ []) way 28 (asked-no 28 _ [] e)
+
+-- a way out of a band is that out of its page, and its number is below those due
+pub left : (img : List ℕ) (b : ℕ) (way : Way) (o : Outcome Way) → andThen o (leaving img b) ≡ returns way → (o ≡ returns way) × Below (outLinksDue img b) way
 unfolding andThen leaving
-left-below img b n (refused k) e = absurd (let z : _≡_ {A = ℕ} 0 1 = cc in omega arith)
-left-below img b n (returns off) e = absurd (let z : _≡_ {A = ℕ} 0 1 = cc in omega arith)
-left-below img b n (returns (out m)) e =
-    let (yes-28, is) = yes-of-returns ((28, ltb m (outLinksDue img b)) ∷ []) (out m) (out n) e in
-    below (yes-of-none ((28, ltb m (outLinksDue img b)) ∷ []) yes-28 .0) is
-  where
-    below : ltb m (outLinksDue img b) ≡ true → out m ≡ out n → n < outLinksDue img b
-    below t is = let same : m ≡ n = cc in omega (arith, ltb-true m (outLinksDue img b) t)
+left img b way (refused k) e = absurd (let z : _≡_ {A = ℕ} 0 1 = cc in omega arith)
+left img b way (returns w) e =
+    let (yes-28, is) = yes-of-returns ((28, isBelow (outLinksDue img b) w) ∷ []) w way e in
+    (ap returns is, subst (Below (outLinksDue img b)) is (below-is (outLinksDue img b) w (yes-of-none ((28, isBelow (outLinksDue img b) w) ∷ []) yes-28 .0)))
+
+-- before band 8 those due are the next band's roots
+pub due-roots : (img : List ℕ) (b : ℕ) → b < 8 → outLinksDue img b ≡ rootCount img (b + 1)
+unfolding outLinksDue
+due-roots img b h = cond-yes (ltb b 8) (rootCount img (b + 1)) _ (lt-ltb b 8 h)
 
 -- 27, and then 9 to 11 of the page
-module _ (img : List ℕ) (key b root : ℕ) where
-  pub no-27 : hasPage img b root ≡ false → through img key b root ≡ refused 27
+module _ (img : List ℕ) (key b : ℕ) (way : Way) where
+  pub no-27 : hasPage img b (number way) ≡ false → through img key b way ≡ refused 27
   unfolding through rootQuestions andThen
-  no-27 e = ap (λ o. andThen o (leaving img b)) (settle-no (rootQuestions img b root) (wayFrom img key b root) 27 (asked-no 27 _ _ e))
+  no-27 e = ap (λ o. andThen o (leaving img b)) (settle-no (rootQuestions img b (number way)) (wayFrom img key b way) 27 (asked-no 27 _ _ e))
 
-  pub past-27 : hasPage img b root ≡ true
-      → through img key b root ≡ andThen (settle (nodeQuestions (pageRoots img b (pageWith img b root)) (pagePairs img b (pageWith img b root))) (wayFrom img key b root)) (leaving img b)
+  pub past-27 : hasPage img b (number way) ≡ true
+      → through img key b way ≡ andThen (settle (nodeQuestions (pageRoots img b (pageWith img b (number way))) (pagePairs img b (pageWith img b (number way)))) (wayFrom img key b way)) (leaving img b)
   unfolding through rootQuestions settle
-  past-27 e = ap (λ o. andThen (outcome o (wayFrom img key b root)) (leaving img b)) (asked-yes 27 _ _ e)
+  past-27 e = ap (λ o. andThen (outcome o (wayFrom img key b way)) (leaving img b)) (asked-yes 27 _ _ e)
+
+-- ---- past an off bit
+
+-- past an off bit no node is reached
+stays-off : (key d : ℕ) (levels : List (List ℕ)) (j n : ℕ) → follow key d levels (off j) ≡ out n → ⊥
+unfolding follow step
+stays-off key d [] j n e = absurd (let z : _≡_ {A = ℕ} 0 1 = cc in omega arith)
+stays-off key d (ns ∷ levels) j n e = stays-off key (suc d) levels (onBits (take j ns)) n e
+
+no-out : (f : ℕ → ℕ) (way : Way) {n : ℕ} → ((m : ℕ) → way ≡ out m → ⊥) → renumbered f way ≡ out n → ⊥
+unfolding renumbered
+no-out f (out m) g e = g m refl
+no-out f (off m) g e = absurd (let z : _≡_ {A = ℕ} 0 1 = cc in omega arith)
+
+-- so where a band is left by an on bit, all bits before were on
+pub still-on : (img : List ℕ) (key b : ℕ) (on : Bool) (root n : ℕ) → through img key b (wayAt on root) ≡ returns (out n) → on ≡ true
+unfolding through wayFrom renumbered number
+still-on img key b true root n e = refl
+still-on img key b false root n e =
+    let i = pageWith img b root in
+    let way-is : wayFrom img key b (off root) ≡ out n = yes-of-returns (rootQuestions img b (number (off root))) _ (out n) (left img b (out n) _ e .0) .1 in
+    absurd (no-out (pageB img b i +_) (follow key (4 * (b - 1)) (pageLevels img b i) (off (root - pageT img b i))) (stays-off key (4 * (b - 1)) (pageLevels img b i) (root - pageT img b i)) way-is)
+
+-- a number below those due is no figure that ends the walk
+pub not-all : (img : List ℕ) (b : ℕ) (on : Bool) (n : ℕ) → n < outLinksDue img b → allSmaller img b (wayAt on n) ≡ false
+unfolding allSmaller
+not-all img b true n h = refl
+not-all img b false n h = ne-eqb n (outLinksDue img b) (λ e. omega arith)
+
+pub number-is : (on : Bool) (n : ℕ) → number (wayAt on n) ≡ n
+unfolding number
+number-is true n = refl
+number-is false n = refl
 
 -- ---- an accepted image
-
--- the way of a key through band b: to the number of its prefix, or the key is not listed; no question gets a no
-abbrev pub BandRight : List ℕ → ℕ → ℕ → Outcome Way → Type 0
-BandRight img key b (refused n) = ⊥
-BandRight img key b (returns (out n)) = AtPrefix img (4 * b) n (key / 2 ^ (32 - 4 * b))
-BandRight img key b (returns off) = lookupAnswer img key ≡ absent
 
 module _ {img : List ℕ} (r : Ready img) (b root : ℕ) (lo : 1 ≤ b) (hi : b ≤ 8) (within : root < rootCount img b) where
   -- 27 gets a yes: the first page's T is 0
   pub has : hasPage img b root ≡ true
   has = page-there img b root 0 (some-pages r b lo hi) (omega (arith, checked r .page b 0 lo hi (some-pages r b lo hi) .counters .0))
 
-  pub last-at : LastAt img b root (pageWith img b root)
+  last-at : LastAt img b root (pageWith img b root)
   last-at = last-page img b root has
 
   -- the page has the root
-  pub root-held : root < pageT img b (pageWith img b root) + pageRoots img b (pageWith img b root)
+  root-held : root < pageT img b (pageWith img b root) + pageRoots img b (pageWith img b root)
   root-held = omega (arith, root-before img b root (pageWith img b root) last-at within, next-roots img (bytes r) (checked r) b lo hi (pageWith img b root) (last-at .in-band))
 
-  -- 9 to 11 get a yes
-  pub in-page : (key : ℕ) → through img key b root ≡ leaving img b (wayFrom img key b root)
-  unfolding andThen
-  in-page key =
-      let i = pageWith img b root in
-      past-27 img key b root has
-      ∙ ap (λ o. andThen o (leaving img b)) (settle-yes (nodeQuestions (pageRoots img b i) (pagePairs img b i)) (wayFrom img key b root)
-      (none-of-yes (nodeQuestions (pageRoots img b i) (pagePairs img b i)) (of-nodes (pageRoots img b i) (pagePairs img b i) (page-nodes img b i (checked r .page b i lo hi (last-at .in-band))))))
+-- the way of a key, as it comes into a band
+module _ {img : List ℕ} (r : Ready img) (key b : ℕ) (way : Way) (lo : 1 ≤ b) (hi : b ≤ 8) (s : Stands img key (4 * (b - 1)) way) where
+  bits : 36 - 4 * b ≡ 32 - 4 * (b - 1)
+  bits = omega arith
 
--- the root of a key
-module _ {img : List ℕ} (r : Ready img) (key b root : ℕ) (lo : 1 ≤ b) (hi : b ≤ 8) (s : AtPrefix img (4 * (b - 1)) root (key / 2 ^ (36 - 4 * b))) where
-  zero-level : depth b 0 ≡ 4 * (b - 1)
-  zero-level = omega arith
+  -- its number is the rank of the key's prefix, so that the page is the one on the key's path
+  root-number : (way : Way) → Stands img key (4 * (b - 1)) way → rootOf img key b ≡ number way
+  unfolding number
+  root-number (out n) t = root-is img (bytes r) (checked r) (r .some) key b n (t .within) (t .prefix ∙ ap (λ (w : ℕ). key / 2 ^ w) (sym bits))
+  root-number (off n) t = unfold rootOf in ap (λ (w : ℕ). rankIn (prefixesAt img (4 * (b - 1))) (key / 2 ^ w)) bits ∙ t .smaller
 
-  root-within : root < rootCount img b
-  root-within = omega (arith, s .within, ap (λ (n : ℕ). length (prefixesAt img n)) zero-level, roots-count img (bytes r) (checked r) (r .some) b lo hi)
-
-  -- the page is the one on the key's path
-  pub page-on-path : pageNumber img b (pageWith img b root) ≡ pageOf img key b
+  pub page-on-path : pageNumber img b (pageWith img b (number way)) ≡ pageOf img key b
   unfolding pageOf
-  page-on-path = ap (λ (n : ℕ). pageNumber img b (pageWith img b n)) (sym (root-is img (bytes r) (checked r) (r .some) key b root (s .within) (s .prefix)))
+  page-on-path = ap (λ (n : ℕ). pageNumber img b (pageWith img b n)) (sym (root-number way s))
 
-  -- its way through the band
-  pub band-right : BandRight img key b (through img key b root)
-  unfolding wayFrom
-  band-right =
-      let i = pageWith img b root in
-      let at = last-at r b root lo hi root-within in
-      let held = root-held r b root lo hi root-within in
-      let reached = reached-root img (bytes r) (checked r) (r .some) b lo hi i root (at .in-band) (at .at) held in
-      let w : 36 - 4 * b ≡ 32 - depth b 0 = omega arith in
-      let x : getD (prefixesAt img (depth b 0)) root 0 ≡ key / 2 ^ (32 - depth b 0) = ap (λ (n : ℕ). getD (prefixesAt img n) root 0) zero-level ∙ s .prefix ∙ ap (λ (n : ℕ). key / 2 ^ n) w in
-      let here : Reached img b i 0 (root - pageT img b i) root (key / 2 ^ (32 - depth b 0)) = subst (Reached img b i 0 (root - pageT img b i) root) x reached in
-      let j : here .j ≡ root - pageT img b i = omega (arith, here .place) in
-      subst (BandRight img key b) (sym (in-page r b root lo hi root-within key))
-      (go i (follow key (4 * (b - 1)) (root - pageT img b i) (pageLevels img b i))
-      (subst (WayRight img key b i) (ap₂ (λ (d j : ℕ). follow key d j (pageLevels img b i)) zero-level j) (way-right r key b i lo hi 3 0 (root - pageT img b i) root (omega arith) here)))
-    where
-      go : (i : ℕ) (w : Way) → WayRight img key b i w → BandRight img key b (leaving img b (linked (pageB img b i) w))
-      go i (out m) t = unfold linked in subst (BandRight img key b) (sym (leave-yes img b (pageB img b i + m) (omega (arith, t .within, links-count r b lo hi)))) t
-      go i off t = unfold linked leaving in t
+  module _ (within : number way < rootCount img b) where
+    i : ℕ
+    i = pageWith img b (number way)
+
+    -- from the page's roots: the page's T counts those before it
+    in-page : (way : Way) (T roots : ℕ) → T ≤ number way → number way < T + roots → Below roots (renumbered (_- T) way) × (renumbered (T +_) (renumbered (_- T) way) ≡ way)
+    unfolding number renumbered
+    in-page (out n) T roots h k = (omega arith, ap out (let e : T + (n - T) ≡ n = omega arith in e))
+    in-page (off n) T roots h k = (omega arith, ap off (let e : T + (n - T) ≡ n = omega arith in e))
+
+    pub way-stands : Stands img key (4 * b) (wayFrom img key b way)
+    unfolding wayFrom i
+    way-stands =
+        let at = last-at r b (number way) lo hi within in
+        let from = in-page way (pageT img b i) (pageRoots img b i) (at .at) (root-held r b (number way) lo hi within) in
+        let d : 4 * (b - 1) ≡ depth b 0 = omega arith in
+        let T : pageT img b i ≡ before img b 0 i = sym (before-roots img (bytes r) (checked r) (r .some) b lo hi i (at .in-band)) in
+        let roots : pageRoots img b i ≡ length (getD (pageLevels img b i) 0 []) = unfold Rattle.format.specs.Writer.rootsIn in sym (page-roots img (bytes r) (checked r) b lo hi i (at .in-band)) in
+        let here : Stands img key (depth b 0) (renumbered (before img b 0 i +_) (renumbered (_- pageT img b i) way)) =
+        subst (λ (t : ℕ). Stands img key (depth b 0) (renumbered (t +_) (renumbered (_- pageT img b i) way))) T (subst (Stands img key (depth b 0)) (sym (from .1)) (subst (λ (x : ℕ). Stands img key x way) d s)) in
+        subst (λ (x : ℕ). Stands img key (4 * b) (renumbered (pageB img b i +_) (follow key x (pageLevels img b i) (renumbered (_- pageT img b i) way)))) (sym d)
+        (stands-out r key b i lo hi (at .in-band) 3 0 (renumbered (_- pageT img b i) way) (omega arith) (subst (λ (m : ℕ). Below m (renumbered (_- pageT img b i) way)) roots (from .0)) here)
+
+    -- no question gets a no
+    pub through-is : through img key b way ≡ returns (wayFrom img key b way)
+    unfolding andThen i
+    through-is =
+        past-27 img key b way (has r b (number way) lo hi within)
+        ∙ ap (λ o. andThen o (leaving img b)) (settle-yes (nodeQuestions (pageRoots img b i) (pagePairs img b i)) (wayFrom img key b way)
+        (none-of-yes (nodeQuestions (pageRoots img b i) (pagePairs img b i)) (of-nodes (pageRoots img b i) (pagePairs img b i) (page-nodes img b i (checked r .page b i lo hi (last-at r b (number way) lo hi within .in-band))))))
+        ∙ leave-yes img b (wayFrom img key b way) (is-below (outLinksDue img b) (wayFrom img key b way)
+        (subst (λ (m : ℕ). Below m (wayFrom img key b way)) (links-count r b lo hi) (stands-below img key (4 * b) (wayFrom img key b way) way-stands)))

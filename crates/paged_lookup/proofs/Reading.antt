@@ -13,13 +13,13 @@ use lib.ListN.{take, drop}
 use Rattle.format.specs.Seq.{every, lastBelow, numbersFrom, upTo}
 use Rattle.format.specs.Key.{keyOf}
 use Rattle.format.specs.Page.{levelsIn, numberAt, pairsAt}
-use Rattle.format.specs.Image.{nextT, pageB, pageCount, pageLevels, pageNumber, pagePairs, pageRoots, pageT, pageWith, rootCount}
+use Rattle.format.specs.Image.{keyCount, nextT, pageB, pageCount, pageLevels, pageNumber, pagePairs, pageRoots, pageT, pageWith, rootCount}
 use Rattle.format.specs.Question.{Outcome, andThen, firstNo, headerQuestions, isZero, nodeQuestions, outcome, refused, returns, settle}
 use Rattle.format.specs.Answer.{LookupAnswer, absent}
 use Rattle.format.proofs.LastBelow.{last-same, last-within}
 use Rattle.format.proofs.Lists.{all-upTo, every-same}
 use Rattle.format.proofs.Checked.{cond-no, cond-yes}
-use Rattle.paged_lookup.specs.Paged.{Way, out, off, follow, hasPage, leaving, linked, pagedAnswer, pagedLookup, rootQuestions, through, walk, wayFrom}
+use Rattle.paged_lookup.specs.Paged.{Way, out, off, follow, hasPage, isBelow, allSmaller, leaving, number, pagedAnswer, pagedLookup, renumbered, rootQuestions, through, walk, wayFrom}
 use Rattle.paged_lookup.specs.EightPages.{Agree, Reads, bytesOfPage}
 use Rattle.paged_lookup.proofs.SameBytes.{number-same, pairs-same}
 use Rattle.paged_lookup.proofs.SameHeader.{keys-same, pages-same, roots-same, due-same, page-number-same, header-same}
@@ -75,98 +75,105 @@ module _ {x y : List ℕ} {page : ℕ → ℕ} (a : Agree x y page) (key b : ℕ
       pairs-are = ap (pairsAt y) place ∙ pairs-same x y (64 * pageNumber x b i) bytes-are
 
   -- 28
-  leaving-same : (w : Way) → leaving y b w ≡ leaving x b w
+  leaving-same : (way : Way) → leaving y b way ≡ leaving x b way
   unfolding leaving
-  leaving-same (out n) = ap (λ (d : ℕ). settle ((28, ltb n d) ∷ []) (out n)) (due-same x y (a .header-is) b lo hi)
-  leaving-same off = refl
+  leaving-same way = ap (λ (d : ℕ). settle ((28, isBelow d way) ∷ []) way) (due-same x y (a .header-is) b lo hi)
 
   onward-same : (o : Outcome Way) → andThen o (leaving y b) ≡ andThen o (leaving x b)
   unfolding andThen
   onward-same (refused n) = refl
-  onward-same (returns w) = leaving-same w
+  onward-same (returns way) = leaving-same way
 
-  -- the questions and the way of a root, where its page agrees
-  through-same : (root : ℕ) → bytesOfPage y b (pageWith x b root) ≡ bytesOfPage x b (pageWith x b root) → through y key b root ≡ through x key b root
-  through-same root e =
+  -- 27 to 11 and the way in a page with so many roots and such pairs, T and B
+  abbrev inPage : Way → Bool → ℕ → List ℕ → ℕ → ℕ → Outcome Way
+  inPage way has roots pairs t n = settle ((27, has) ∷ nodeQuestions roots pairs) (renumbered (n +_) (follow key (4 * (b - 1)) (levelsIn 4 roots pairs) (renumbered (_- t) way)))
+
+  -- the questions and the way from a root, where its page agrees
+  through-same : (way : Way) → bytesOfPage y b (pageWith x b (number way)) ≡ bytesOfPage x b (pageWith x b (number way)) → through y key b way ≡ through x key b way
+  through-same way e =
       elim (ℕ-discrete (pageCount x b) 0) [
-        | yes z ↦ let none : hasPage x b root ≡ false = no-pages z in no-27 y key b root (has-same root ∙ none) ∙ sym (no-27 x key b root none)
-        | no z ↦ same (last-within (pageCount x b) (λ i. leb (pageT x b i) root) (omega arith))
+        | yes z ↦ let none : hasPage x b (number way) ≡ false = no-pages z in no-27 y key b way (has-same (number way) ∙ none) ∙ sym (no-27 x key b way none)
+        | no z ↦ same (last-within (pageCount x b) (λ i. leb (pageT x b i) (number way)) (omega arith))
       ]
     where
-      no-pages : pageCount x b ≡ 0 → hasPage x b root ≡ false
-      no-pages z = unfold hasPage upTo numbersFrom every in ap (λ (n : ℕ). not (every (λ i. ltb root (pageT x b i)) (upTo n))) z
+      no-pages : pageCount x b ≡ 0 → hasPage x b (number way) ≡ false
+      no-pages z = unfold hasPage upTo numbersFrom every in ap (λ (n : ℕ). not (every (λ i. ltb (number way) (pageT x b i)) (upTo n))) z
 
-      same : lastBelow (pageCount x b) (λ i. leb (pageT x b i) root) < pageCount x b → through y key b root ≡ through x key b root
+      same : lastBelow (pageCount x b) (λ i. leb (pageT x b i) (number way)) < pageCount x b → through y key b way ≡ through x key b way
       same within = unfold through rootQuestions wayFrom pageLevels in
-          let j = pageWith x b root in
+          let j = pageWith x b (number way) in
           let h : j < pageCount x b = unfold pageWith in within in
-          let w : pageWith y b root ≡ j = with-same root in
-          let r : pageRoots y b j ≡ pageRoots x b j = roots-are j h in
-          let ps : pagePairs y b j ≡ pagePairs x b j = pairs-are j h e in
-          let at : (y : List ℕ) (i : ℕ) → Outcome Way = λ y i. settle ((27, hasPage y b root) ∷ nodeQuestions (pageRoots y b i) (pagePairs y b i)) (linked (pageB y b i) (follow key (4 * (b - 1)) (root - pageT y b i) (levelsIn 4 (pageRoots y b i) (pagePairs y b i)))) in
-          onward-same (at y (pageWith y b root))
-          ∙ ap (λ (i : ℕ). andThen (at y i) (leaving x b)) w
-          ∙ ap₂ (λ (t : Bool) (n : ℕ). andThen (settle ((27, t) ∷ nodeQuestions (pageRoots y b j) (pagePairs y b j)) (linked n (follow key (4 * (b - 1)) (root - pageT y b j) (levelsIn 4 (pageRoots y b j) (pagePairs y b j))))) (leaving x b)) (has-same root) (B-is j h e)
-          ∙ ap₂ (λ (m : ℕ) (l : List ℕ). andThen (settle ((27, hasPage x b root) ∷ nodeQuestions m l) (linked (pageB x b j) (follow key (4 * (b - 1)) (root - pageT y b j) (levelsIn 4 m l)))) (leaving x b)) r ps
-          ∙ ap (λ (t : ℕ). andThen (settle ((27, hasPage x b root) ∷ nodeQuestions (pageRoots x b j) (pagePairs x b j)) (linked (pageB x b j) (follow key (4 * (b - 1)) (root - t) (levelsIn 4 (pageRoots x b j) (pagePairs x b j))))) (leaving x b)) (a .T-is b j lo hi h)
+          onward-same (inPage way (hasPage y b (number way)) (pageRoots y b (pageWith y b (number way))) (pagePairs y b (pageWith y b (number way))) (pageT y b (pageWith y b (number way))) (pageB y b (pageWith y b (number way))))
+          ∙ ap (λ (i : ℕ). andThen (inPage way (hasPage y b (number way)) (pageRoots y b i) (pagePairs y b i) (pageT y b i) (pageB y b i)) (leaving x b)) (with-same (number way))
+          ∙ ap₂ (λ (t : Bool) (n : ℕ). andThen (inPage way t (pageRoots y b j) (pagePairs y b j) (pageT y b j) n) (leaving x b)) (has-same (number way)) (B-is j h e)
+          ∙ ap₂ (λ (m : ℕ) (l : List ℕ). andThen (inPage way (hasPage x b (number way)) m l (pageT y b j) (pageB x b j)) (leaving x b)) (roots-are j h) (pairs-are j h e)
+          ∙ ap (λ (t : ℕ). andThen (inPage way (hasPage x b (number way)) (pageRoots x b j) (pagePairs x b j) t (pageB x b j)) (leaving x b)) (a .T-is b j lo hi h)
+
+  all-smaller-same : (way : Way) → allSmaller y b way ≡ allSmaller x b way
+  unfolding allSmaller
+  all-smaller-same (out n) = refl
+  all-smaller-same (off n) = ap (eqb n) (due-same x y (a .header-is) b lo hi)
 
 -- ---- the walk
 
 -- what comes of the way out of a band, 0 where there is none
-onward : Outcome Way → (ℕ → ℕ) → ℕ
+onward : Outcome Way → (Way → ℕ) → ℕ
 onward (refused n) f = 0
-onward (returns (out next)) f = f next
-onward (returns off) f = 0
+onward (returns next) f = f next
 
--- the page of band b, by its index, that the walk with n bands to go takes from a root; 0 where it does not come to the band
-taken : List ℕ → ℕ → ℕ → ℕ → ℕ → ℕ
-taken img key zero root b = 0
-taken img key (suc n) root b = cond (eqb b (8 - n)) (pageWith img b root) (onward (through img key (8 - n) root) (λ next. taken img key n next b))
+-- the page of band b, by its index, that the walk with n bands to go takes; 0 where it does not come to the band
+taken : List ℕ → ℕ → ℕ → Way → ℕ → ℕ
+taken img key zero way b = 0
+taken img key (suc n) way b = cond (eqb b (8 - n)) (pageWith img b (number way)) (onward (through img key (8 - n) way) (λ next. taken img key n next b))
 
-taken-in : (img : List ℕ) (key n root b : ℕ) → 1 ≤ pageCount img b → taken img key n root b < pageCount img b
+taken-in : (img : List ℕ) (key n : ℕ) (way : Way) (b : ℕ) → 1 ≤ pageCount img b → taken img key n way b < pageCount img b
 unfolding taken onward
-taken-in img key zero root b h = h
-taken-in img key (suc n) root b h = go (eqb b (8 - n)) (through img key (8 - n) root) (λ next. taken-in img key n next b h)
+taken-in img key zero way b h = h
+taken-in img key (suc n) way b h = go (eqb b (8 - n)) (through img key (8 - n) way) (λ next. taken-in img key n next b h)
   where
-    within : pageWith img b root < pageCount img b
-    within = unfold pageWith in last-within (pageCount img b) (λ i. leb (pageT img b i) root) h
+    within : pageWith img b (number way) < pageCount img b
+    within = unfold pageWith in last-within (pageCount img b) (λ i. leb (pageT img b i) (number way)) h
 
-    go : (t : Bool) (o : Outcome Way) → ((next : ℕ) → taken img key n next b < pageCount img b) → cond t (pageWith img b root) (onward o (λ next. taken img key n next b)) < pageCount img b
+    go : (t : Bool) (o : Outcome Way) → ((next : Way) → taken img key n next b < pageCount img b) → cond t (pageWith img b (number way)) (onward o (λ next. taken img key n next b)) < pageCount img b
     go true o f = within
     go false (refused k) f = h
-    go false (returns (out next)) f = f next
-    go false (returns off) f = h
+    go false (returns next) f = f next
 
 module _ {x y : List ℕ} {page : ℕ → ℕ} (a : Agree x y page) (key : ℕ) where
-  walk-same : (n root : ℕ) (pages : List ℕ) → n ≤ 8 → ((b : ℕ) → 9 - n ≤ b → b ≤ 8 → page b ≡ taken x key n root b) → walk y key n root pages ≡ walk x key n root pages
-  unfolding walk andThen taken onward
-  walk-same zero root pages h f = refl
-  walk-same (suc n) root pages h f =
+  -- what follows a band, with n bands to go
+  after : List ℕ → ℕ → List ℕ → Way → Outcome LookupAnswer
+  after img n read next = cond (allSmaller img (8 - n) next) (returns (absent (keyCount img))) (walk img key n read next)
+
+  walk-same : (n : ℕ) (pages : List ℕ) (way : Way) → n ≤ 8 → ((b : ℕ) → 9 - n ≤ b → b ≤ 8 → page b ≡ taken x key n way b) → walk y key n pages way ≡ walk x key n pages way
+  unfolding walk andThen taken onward after
+  walk-same zero pages way h f = refl
+  walk-same (suc n) pages way h f =
       let b = 8 - n in
-      let here : page b ≡ pageWith x b root = f b (omega arith) (omega arith) ∙ cond-yes (eqb b (8 - n)) _ _ (eq-eqb b (8 - n) refl) in
-      let e : bytesOfPage y b (pageWith x b root) ≡ bytesOfPage x b (pageWith x b root) = subst (λ (i : ℕ). bytesOfPage y b i ≡ bytesOfPage x b i) here (a .page-is b (omega arith) (omega arith)) in
-      let p : pageNumber y b (pageWith y b root) ≡ pageNumber x b (pageWith x b root) = page-number-same x y (a .header-is) b _ (omega arith) ∙ ap (pageNumber x b) (with-same a key b (omega arith) (omega arith) root) in
-      ap₂ (λ (o : Outcome Way) (q : ℕ). andThen {B = LookupAnswer} o (λ way. elim way [ out next ↦ walk y key n next (pages ++ q ∷ []) | off ↦ returns absent ])) (through-same a key b (omega arith) (omega arith) root e) p
-      ∙ go (through x key b root) refl (λ next s. walk-same n next (pages ++ pageNumber x b (pageWith x b root) ∷ []) (omega arith) (later next s))
+      let i = pageWith x b (number way) in
+      let here : page b ≡ i = f b (omega arith) (omega arith) ∙ cond-yes (eqb b (8 - n)) _ _ (eq-eqb b (8 - n) refl) in
+      let e : bytesOfPage y b i ≡ bytesOfPage x b i = subst (λ (i : ℕ). bytesOfPage y b i ≡ bytesOfPage x b i) here (a .page-is b (omega arith) (omega arith)) in
+      let p : pageNumber y b (pageWith y b (number way)) ≡ pageNumber x b i = page-number-same x y (a .header-is) b _ (omega arith) ∙ ap (pageNumber x b) (with-same a key b (omega arith) (omega arith) (number way)) in
+      ap₂ (λ (o : Outcome Way) (q : ℕ). andThen o (after y n (pages ++ q ∷ []))) (through-same a key b (omega arith) (omega arith) way e) p
+      ∙ go (through x key b way) refl (λ next s. walk-same n (pages ++ pageNumber x b i ∷ []) next (omega arith) (later next s))
     where
-      later : (next : ℕ) → through x key (8 - n) root ≡ returns (out next) → (b : ℕ) → 9 - n ≤ b → b ≤ 8 → page b ≡ taken x key n next b
+      later : (next : Way) → through x key (8 - n) way ≡ returns next → (b : ℕ) → 9 - n ≤ b → b ≤ 8 → page b ≡ taken x key n next b
       later next s b lo hi =
           f b (omega arith) hi
           ∙ cond-no (eqb b (8 - n)) _ _ (ne-eqb b (8 - n) (λ z. omega arith))
           ∙ ap (λ o. onward o (λ m. taken x key n m b)) s
 
-      go : (o : Outcome Way) → through x key (8 - n) root ≡ o
-          → ((next : ℕ) → through x key (8 - n) root ≡ returns (out next) → walk y key n next (pages ++ pageNumber x (8 - n) (pageWith x (8 - n) root) ∷ []) ≡ walk x key n next (pages ++ pageNumber x (8 - n) (pageWith x (8 - n) root) ∷ []))
-          → andThen {B = LookupAnswer} o (λ way. elim way [ out next ↦ walk y key n next (pages ++ pageNumber x (8 - n) (pageWith x (8 - n) root) ∷ []) | off ↦ returns absent ])
-          ≡ andThen {B = LookupAnswer} o (λ way. elim way [ out next ↦ walk x key n next (pages ++ pageNumber x (8 - n) (pageWith x (8 - n) root) ∷ []) | off ↦ returns absent ])
+      go : (o : Outcome Way) → through x key (8 - n) way ≡ o
+          → ((next : Way) → through x key (8 - n) way ≡ returns next → walk y key n (pages ++ pageNumber x (8 - n) (pageWith x (8 - n) (number way)) ∷ []) next ≡ walk x key n (pages ++ pageNumber x (8 - n) (pageWith x (8 - n) (number way)) ∷ []) next)
+          → andThen o (after y n (pages ++ pageNumber x (8 - n) (pageWith x (8 - n) (number way)) ∷ [])) ≡ andThen o (after x n (pages ++ pageNumber x (8 - n) (pageWith x (8 - n) (number way)) ∷ []))
       go (refused k) s rec = refl
-      go (returns (out next)) s rec = rec next s
-      go (returns off) s rec = refl
+      go (returns next) s rec =
+          ap₂ (λ (t : Bool) (k : ℕ). cond t (returns (absent k)) (walk y key n (pages ++ pageNumber x (8 - n) (pageWith x (8 - n) (number way)) ∷ []) next)) (all-smaller-same a key (8 - n) (omega arith) (omega arith) next) (keys-same x y (a .header-is))
+          ∙ ap (cond (allSmaller x (8 - n) next) (returns (absent (keyCount x)))) (rec next s)
 
-  answer-same : ((b : ℕ) → 1 ≤ b → b ≤ 8 → page b ≡ taken x key 8 0 b) → pagedAnswer y key ≡ pagedAnswer x key
+  answer-same : ((b : ℕ) → 1 ≤ b → b ≤ 8 → page b ≡ taken x key 8 (out 0) b) → pagedAnswer y key ≡ pagedAnswer x key
   unfolding pagedAnswer
   answer-same f =
-      ap₂ (λ (k : ℕ) (w : Outcome LookupAnswer). elim (isZero k) [ true ↦ returns absent | false ↦ w ]) (keys-same x y (a .header-is)) (walk-same 8 0 [] (omega arith) (λ b lo hi. f b (omega arith) hi))
+      ap₂ (λ (k : ℕ) (w : Outcome LookupAnswer). cond (isZero k) (returns (absent 0)) w) (keys-same x y (a .header-is)) (walk-same 8 [] (out 0) (omega arith) (λ b lo hi. f b (omega arith) hi))
 
 -- the same questions, and then the same
 then-same : (o : Option ℕ) (f g : ℕ → Outcome LookupAnswer) (key : ℕ) → f key ≡ g key → andThen (outcome o key) f ≡ andThen (outcome o key) g
@@ -179,8 +186,8 @@ unfolding pagedLookup settle
 reads-little x holder slot =
     let key = keyOf holder slot in
     record {
-      page = taken x key 8 0;
-      in-band = λ b h. taken-in x key 8 0 b h;
+      page = taken x key 8 (out 0);
+      in-band = λ b h. taken-in x key 8 (out 0) b h;
       enough = λ y a. ap (λ qs. andThen (outcome (firstNo qs) key) (pagedAnswer y)) (header-same x y (a .header-is) (a .length-is))
           ∙ then-same (firstNo (headerQuestions x)) (pagedAnswer y) (pagedAnswer x) key (answer-same a key (λ b lo hi. refl));
     }

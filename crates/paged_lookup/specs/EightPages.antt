@@ -27,7 +27,7 @@ pub record Reads (x : List ℕ) (holder slot : ℕ) : Type 0 where
   pub enough : (y : List ℕ) → Agree x y page → pagedLookup y holder slot ≡ pagedLookup x holder slot
 
 pub record EightPages : Type 0 where
-  -- on every image that passes all thirteen questions it is the full lookup, page numbers too
+  -- on every image that passes all thirteen questions it is the full lookup, page numbers and the number that "absent" brings too
   pub agrees : (img : List ℕ) → Accepted img → (holder slot : ℕ) → pagedLookup img holder slot ≡ lookup img holder slot
   -- whatever the bytes, it reads the header, the T's of the pages and eight pages, one of each band
   pub reads : (x : List ℕ) (holder slot : ℕ) → Reads x holder slot

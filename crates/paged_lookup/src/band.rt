@@ -55,14 +55,19 @@ fn pages_upto(image: &[u8], first: usize, pages: usize, root: Root) -> usize
     0
 }
 
-// Question 28, on leaving band `band`.
+// Question 28, on leaving band `band`: a figure may be equal to the out-links due.
 fn leave(image: &[u8], band: usize, way: Way) -> Way
     requires { ⌜ (64 ≤ length (now image)) × (band ≤ 8) ⌝ }
     ensures { λ r. ⌜ wayOutcome r ≡ andThen (wayOutcome way) (Paged.leaving (now (image .entry)) band) ⌝ }
 {
     match way {
-        Way::Off => Way::Off,
         Way::Refused(n) => Way::Refused(n),
+        Way::Off(figure) => {
+            if links_due(image, band) < figure.0 {
+                return Way::Refused(28);
+            }
+            Way::Off(figure)
+        }
         Way::Out(link) => {
             if links_due(image, band) <= link.0 {
                 return Way::Refused(28);
@@ -72,10 +77,11 @@ fn leave(image: &[u8], band: usize, way: Way) -> Way
     }
 }
 
-// The way of a key through band `band` from a root, in any image whose 1 to 7 get a yes: the page is judged. The band's first page is page `first` of the image.
-fn through_judged(image: &[u8], band: usize, first: usize, root: Root, key: u32) -> Step
+// The way of a key through band `band` from a root, in any image whose 1 to 7 get a yes: the page is judged. The band's first page is page `first` of the image. Where
+// `on` is false a bit was off above, and the root is a figure.
+fn through_judged(image: &[u8], band: usize, first: usize, root: Root, on: bool, key: u32) -> Step
     requires { ⌜ (BandAt (now image) band first) × (root .0 < rootCount (now image) band) ⌝ }
-    ensures { λ r. ⌜ StepRight (now (image .entry)) key band (root .0) r ⌝ }
+    ensures { λ r. ⌜ StepRight (now (image .entry)) key band on (root .0) r ⌝ }
 {
     let pages = page_count(image, band);
     let upto = pages_upto(image, first, pages, root);
@@ -90,7 +96,15 @@ fn through_judged(image: &[u8], band: usize, first: usize, root: Root, key: u32)
     if roots == 0 {
         return refused(9);
     }
-    let way = through_page(image, 64 * page, roots, root.0 - t.0, key, 4 * (band - 1));
+    let way = through_page(
+        image,
+        64 * page,
+        roots,
+        root.0 - t.0,
+        on,
+        key,
+        4 * (band - 1),
+    );
     Step {
         way: leave(image, band, way),
         page,
@@ -98,12 +112,12 @@ fn through_judged(image: &[u8], band: usize, first: usize, root: Root, key: u32)
 }
 
 // The same in an accepted image, where the page is found by halves and not judged again.
-fn through_accepted(image: &[u8], band: usize, first: usize, root: Root, key: u32) -> Step
+fn through_accepted(image: &[u8], band: usize, first: usize, root: Root, on: bool, key: u32) -> Step
     requires { ⌜ (Ready (now image)) × (BandAt (now image) band first) × (root .0 < rootCount (now image) band) ⌝ }
-    ensures { λ r. ⌜ StepRight (now (image .entry)) key band (root .0) r ⌝ }
+    ensures { λ r. ⌜ StepRight (now (image .entry)) key band on (root .0) r ⌝ }
 {
     let head = head_of_root(image, band_at(image, band, first), root);
-    let way = through_accepted_page(image, head, root, key);
+    let way = through_accepted_page(image, head, root, on, key);
     Step {
         way: leave(image, band, way),
         page: head.number,
@@ -116,14 +130,15 @@ pub(crate) fn through(
     band: usize,
     first: usize,
     root: Root,
+    on: bool,
     key: u32,
     accepted: bool,
 ) -> Step
     requires { ⌜ (accepted ≡ true → Ready (now image)) × (BandAt (now image) band first) × (root .0 < rootCount (now image) band) ⌝ }
-    ensures { λ r. ⌜ StepRight (now (image .entry)) key band (root .0) r ⌝ }
+    ensures { λ r. ⌜ StepRight (now (image .entry)) key band on (root .0) r ⌝ }
 {
     if accepted {
-        return through_accepted(image, band, first, root, key);
+        return through_accepted(image, band, first, root, on, key);
     }
-    through_judged(image, band, first, root, key)
+    through_judged(image, band, first, root, on, key)
 }

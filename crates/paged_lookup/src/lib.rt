@@ -14,6 +14,7 @@ use format::OutLink;
 use format::cross;
 use header::header_refusal;
 use header::key_count;
+use header::links_due;
 use header::page_count;
 use page::Way;
 use zorder::weave;
@@ -22,7 +23,8 @@ use zorder::weave;
 pub enum Presence {
     // The rank; the page numbers stand beside.
     Listed(u32),
-    Absent,
+    // How many listed admissions have a smaller key.
+    Absent(u32),
     // The number of the question that got a no.
     Refused(u8),
 }
@@ -48,34 +50,46 @@ fn walk(image: &[u8], key: u32, accepted: bool) -> Found
     requires { ⌜ (HeaderYes (now image)) × (accepted ≡ true → Accepted (now image)) ⌝ }
     ensures { λ r. ⌜ (lookupOutcome (r .answer) (r .pages) ≡ pagedAnswer (now (image .entry)) key) × (NoPages (r .answer) (r .pages)) ⌝ }
 {
-    if key_count(image) == 0 {
-        return no_pages(Presence::Absent);
+    let keys = key_count(image);
+    if keys == 0 {
+        return no_pages(Presence::Absent(0));
     }
     let mut pages = [0u32; 8];
-    // the link that leads to root 0 of band 1
+    // the link that leads to root 0 of band 1; past an off bit the figure
     let mut link = OutLink(0);
+    let mut on = true;
     let mut first = 1;
     let mut passed = 0;
     while passed < 8 {
         let band = passed + 1;
-        let step = through(image, band, first, cross(link), key, accepted);
+        let step = through(image, band, first, cross(link), on, key, accepted);
         let way = step.way;
         match way {
             Way::Refused(n) => return no_pages(Presence::Refused(n)),
-            Way::Off => return no_pages(Presence::Absent),
             Way::Out(next) => link = next,
+            Way::Off(figure) => {
+                if figure.0 == links_due(image, band) {
+                    // all keys are smaller
+                    return no_pages(Presence::Absent(keys as u32));
+                }
+                on = false;
+                link = figure;
+            }
         }
         pages[passed] = step.page as u32;
         first += page_count(image, band);
         passed = band;
     }
-    Found {
-        answer: Presence::Listed(link.0 as u32),
-        pages,
+    if on {
+        return Found {
+            answer: Presence::Listed(link.0 as u32),
+            pages,
+        };
     }
+    no_pages(Presence::Absent(link.0 as u32))
 }
 
-// Looks a holder and a slot up in one page a band: the rank and the eight page numbers, or absent.
+// Looks a holder and a slot up in one page a band: the rank and the eight page numbers, or absent with the number of smaller keys.
 pub fn lookup(image: &[u8], holder: u16, slot: u16) -> Found
     ensures { λ r. ⌜ (lookupOutcome (r .answer) (r .pages) ≡ pagedLookup (now (image .entry)) holder slot) × (NoPages (r .answer) (r .pages)) ⌝ }
 {

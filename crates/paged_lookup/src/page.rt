@@ -1,15 +1,16 @@
 // The way of a key in one page.
 ghost use mathlib.Core.Path.{_≡_};
+ghost use mathlib.Core.Bool.{true, not, cond, _&&_};
 ghost use Prim.Native.Nat.{_+_, _-_, _*_, _≤_, _<_};
 ghost use lib.ListN.{length};
 ghost use Rattle.format.specs.Key.{keyBit};
 ghost use Rattle.format.specs.Trie.{bit};
 ghost use Rattle.format.specs.Page.{levelsIn, numberAt, pairsAt};
-ghost use Rattle.format.specs.Question.{nodeQuestions, returns, settle};
-ghost use Rattle.nodes.specs.Words.{pairsIn};
+ghost use Rattle.format.specs.Question.{isZero, nodeQuestions, returns, settle};
+ghost use Rattle.nodes.specs.Words.{nodeIn, pairsIn};
 ghost use Rattle.pages.specs.Page.{Ready, HeadRead, childIn};
 ghost use Rattle.paged_lookup.specs.Paged;
-ghost use Rattle.paged_lookup.specs.Way.{wayOutcome, JudgedIn};
+ghost use Rattle.paged_lookup.specs.Way.{wayAt, wayOutcome, JudgedIn};
 use checker::page::check_nodes;
 use checker::page::fourth_level;
 use checker::page::third_level;
@@ -22,10 +23,11 @@ use nodes::on_bits_before;
 use pages::PageHead;
 use pages::node_count;
 
-// Where a key's bits lead: to an out-link of the band, or to an off bit; or the number of the question that got a no.
+// Where a key's bits lead: to an out-link of the band; past an off bit to a figure, by the out-links of the band that lie left; or the number of the question that
+// got a no.
 pub enum Way {
     Out(OutLink),
-    Off,
+    Off(OutLink),
     Refused(u8),
 }
 
@@ -34,6 +36,12 @@ pub struct Judged {
     pub roots: usize,
     pub nodes: usize,
     pub b: OutLink,
+}
+
+// A place in a page, and whether all the key's bits so far were on: the place is then that of the key's node, else the nodes of the level before it lie left.
+pub struct Position {
+    pub place: usize,
+    pub on: bool,
 }
 
 // The bit of a key at a level counted from 0.
@@ -54,7 +62,8 @@ fn bit_of(node: u64, side: usize) -> u64
     node / 2
 }
 
-// The place of the child that the bit of this side of the node at a place leads to: the roots, and the on bits before that bit.
+// The place of the child that the bit of this side of the node at a place leads to, or would lead to: the roots, and the on bits before that bit. Without a branch on
+// the side, since a key's bits cannot be foreseen.
 fn child_place<'a>(
     word: &'a [u64; 9],
     before: &'a [u16; 9],
@@ -62,52 +71,78 @@ fn child_place<'a>(
     place: usize,
     side: usize,
 ) -> usize
-    requires { ⌜ (place < 240) × (roots ≤ 60) ⌝ }
+    requires { ⌜ (place < 240) × (roots ≤ 60) × (side ≤ 1) ⌝ }
     ensures { λ r. ⌜ (r ≡ childIn (now (word .entry)) (now (before .entry)) roots place side) × (r < 65700) ⌝ }
 {
-    let first = roots + on_bits_before(word, before, place);
-    if side == 0 {
-        return first;
-    }
-    first + (node_at(word, place) / 2) as usize
+    let first_bit = (node_at(word, place) / 2) as usize;
+    roots + on_bits_before(word, before, place) + side * first_bit
 }
 
-// Follows a key's four bits from level `level` on, in a page's words, from the page's root `root`, counted from 0 in the page.
+// One level down, where the key's bit is `side`. Past an off bit the nodes left of the place lie left, and what lies under them ends where the first child of the place
+// stands.
+fn step<'a>(
+    word: &'a [u64; 9],
+    before: &'a [u16; 9],
+    roots: usize,
+    from: Position,
+    side: usize,
+) -> Position
+    requires { ⌜ (from .place ≤ 240) × (from .on ≡ true → from .place < 240) × (roots ≤ 60) × (side ≤ 1) ⌝ }
+    ensures { λ r. ⌜ (r .place ≡ childIn (now (word .entry)) (now (before .entry)) roots (from .place) (cond (from .on) side 0)) × (r .place < 65700) × (r .on ≡ (from .on && not (isZero (bit side (nodeIn (now (word .entry)) (from .place)))))) ⌝ }
+{
+    let place = from.place;
+    if from.on {
+        return Position {
+            place: child_place(word, before, roots, place, side),
+            on: bit_of(node_at(word, place), side) != 0,
+        };
+    }
+    Position {
+        place: roots + on_bits_before(word, before, place),
+        on: false,
+    }
+}
+
+// Follows a key's four bits from level `level` on, in a page's words, from the page's root `root`, counted from 0 in the page. Where `on` is false a bit was off
+// above, and the roots before this one lie left.
 fn follow<'a>(
     word: &'a [u64; 9],
     before: &'a [u16; 9],
     page: Judged,
     root: usize,
+    on: bool,
     key: u32,
     level: usize,
 ) -> Way
     requires { ⌜ (JudgedIn (now word) (now before) page) × (root < page .roots) × (level + 4 ≤ 32) × (page .b .0 < 65536) ⌝ }
-    ensures { λ r. ⌜ wayOutcome r ≡ returns (Paged.linked (page .b .0) (Paged.follow key level root (levelsIn 4 (page .roots) (pairsIn (now (word .entry)))))) ⌝ }
+    ensures { λ r. ⌜ wayOutcome r ≡ returns (Paged.renumbered (page .b .0 +_) (Paged.follow key level (levelsIn 4 (page .roots) (pairsIn (now (word .entry)))) (wayAt on root))) ⌝ }
 {
-    let mut place = root;
+    let mut at = Position { place: root, on };
     let mut passed = 0;
     while passed < 4 {
         let side = key_bit(key, level + passed);
-        if bit_of(node_at(word, place), side) == 0 {
-            return Way::Off;
-        }
-        place = child_place(word, before, page.roots, place, side);
+        at = step(word, before, page.roots, at, side);
         passed += 1;
     }
-    Way::Out(OutLink(page.b.0 + (place - page.nodes)))
+    let link = OutLink(page.b.0 + (at.place - page.nodes));
+    if at.on {
+        return Way::Out(link);
+    }
+    Way::Off(link)
 }
 
-// Questions 10 and 11 of the page at `at` with so many roots, 9 having got a yes; then the way of a key's four bits from level `level` on, from the page's root `root`.
+// Questions 10 and 11 of the page at `at` with so many roots, 9 having got a yes; then the way of a key's four bits from level `level` on, as `follow` says.
 pub(crate) fn through_page(
     image: &[u8],
     at: usize,
     roots: usize,
     root: usize,
+    on: bool,
     key: u32,
     level: usize,
 ) -> Way
     requires { ⌜ (at + 64 ≤ length (now image)) × (1 ≤ roots) × (roots ≤ 60) × (root < roots) × (level + 4 ≤ 32) ⌝ }
-    ensures { λ r. ⌜ wayOutcome r ≡ settle (nodeQuestions roots (pairsAt (now (image .entry)) at)) (Paged.linked (numberAt (now (image .entry)) (at + 2)) (Paged.follow key level root (levelsIn 4 roots (pairsAt (now (image .entry)) at)))) ⌝ }
+    ensures { λ r. ⌜ wayOutcome r ≡ settle (nodeQuestions roots (pairsAt (now (image .entry)) at)) (Paged.renumbered (numberAt (now (image .entry)) (at + 2) +_) (Paged.follow key level (levelsIn 4 roots (pairsAt (now (image .entry)) at)) (wayAt on root))) ⌝ }
 {
     let words = gather(image, at);
     let third = third_level(&words.word, &words.before, roots);
@@ -121,13 +156,19 @@ pub(crate) fn through_page(
         nodes: shape.nodes,
         b: OutLink(number(image, at + 2)),
     };
-    follow(&words.word, &words.before, page, root, key, level)
+    follow(&words.word, &words.before, page, root, on, key, level)
 }
 
 // The same in a page of an accepted image, which is not judged again: its nodes are counted by its out-links.
-pub(crate) fn through_accepted_page(image: &[u8], head: PageHead, root: Root, key: u32) -> Way
+pub(crate) fn through_accepted_page(
+    image: &[u8],
+    head: PageHead,
+    root: Root,
+    on: bool,
+    key: u32,
+) -> Way
     requires { ⌜ (Ready (now image)) × (HeadRead (now image) head) × (head .t .0 ≤ root .0) × (root .0 < head .t .0 + head .roots) ⌝ }
-    ensures { λ r. ⌜ wayOutcome r ≡ settle (nodeQuestions (head .roots) (pairsAt (now (image .entry)) (64 * head .number))) (Paged.linked (numberAt (now (image .entry)) (64 * head .number + 2)) (Paged.follow key (4 * (head .band - 1)) (root .0 - head .t .0) (levelsIn 4 (head .roots) (pairsAt (now (image .entry)) (64 * head .number))))) ⌝ }
+    ensures { λ r. ⌜ wayOutcome r ≡ settle (nodeQuestions (head .roots) (pairsAt (now (image .entry)) (64 * head .number))) (Paged.renumbered (numberAt (now (image .entry)) (64 * head .number + 2) +_) (Paged.follow key (4 * (head .band - 1)) (levelsIn 4 (head .roots) (pairsAt (now (image .entry)) (64 * head .number))) (wayAt on (root .0 - head .t .0)))) ⌝ }
 {
     let words = gather(image, 64 * head.number);
     let nodes = node_count(head, &words.before);
@@ -143,6 +184,7 @@ pub(crate) fn through_accepted_page(image: &[u8], head: PageHead, root: Root, ke
         &words.before,
         page,
         root.0 - head.t.0,
+        on,
         key,
         level,
     )

@@ -31,7 +31,8 @@ pub enum ByRank {
     Refused(u8),
 }
 
-// Looks a holder and a slot up: the rank and the eight page numbers on the key's path, or absent. In an accepted image the eight-page lookup finds just that.
+// Looks a holder and a slot up: the rank and the eight page numbers on the key's path, or absent with the number of smaller keys. In an accepted image the eight-page
+// lookup finds just that.
 pub fn lookup(image: &[u8], holder: u16, slot: u16) -> Found
     ensures { λ r. ⌜ (lookupOutcome (r .answer) (r .pages) ≡ Answer.lookup (now (image .entry)) holder slot) × (NoPages (r .answer) (r .pages)) ⌝ }
 {

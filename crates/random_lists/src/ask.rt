@@ -1,5 +1,6 @@
 // Lookup, count, listing and finding by rank against the plain reader.
 use crate::eight::ask_sound;
+use crate::eight::one_bit;
 use crate::tally::COUNTS;
 use crate::tally::FINDS;
 use crate::tally::LISTINGS;
@@ -9,6 +10,7 @@ use crate::tally::expect;
 use answers::member_count;
 use format::Admission;
 use format::Rectangle;
+use paged_lookup::Found;
 use paged_lookup::Presence;
 use query::ByRank;
 use testing::Random;
@@ -71,15 +73,14 @@ pub fn is_at(keys: &[u32], rank: usize, key: u32) -> bool {
     false
 }
 
-// Whether lookup finds the rank that the plain reader finds, or neither finds one.
-fn is_right(keys: &[u32], image: &[u8], holder: u16, slot: u16) -> bool {
+// Whether lookup found the rank that the plain reader finds, or, where that finds none, as many smaller keys.
+fn is_right(keys: &[u32], found: Found, holder: u16, slot: u16) -> bool {
     let key = testing::key_of(holder, slot);
     let rank = testing::rank_of(keys, keys.len(), key);
-    let found = query::lookup(image, holder, slot);
     let answer = found.answer;
     match answer {
         Presence::Refused(_) => false,
-        Presence::Absent => !is_at(keys, rank, key),
+        Presence::Absent(smaller) => smaller as usize == rank && !is_at(keys, rank, key),
         Presence::Listed(r) => r as usize == rank && is_at(keys, rank, key),
     }
 }
@@ -95,21 +96,28 @@ pub fn at_rank(image: &[u8], rank: usize) -> Admission {
     }
 }
 
-// A rank, and lookup of its admission and of two beside it; in an empty list lookup of any.
+// Lookup of an admission against the plain reader, and both lookups against the steps.
+fn look_up(tally: Tally, keys: &[u32], image: &[u8], holder: u16, slot: u16) -> Tally {
+    let found = query::lookup(image, holder, slot);
+    let t = expect(tally, LOOKUPS, is_right(keys, found, holder, slot));
+    ask_sound(t, image, found, holder, slot)
+}
+
+// A rank, and lookup of its admission and of others beside it, most of them not listed; in an empty list lookup of any.
 fn ask_rank(tally: Tally, keys: &[u32], image: &[u8], rank: usize) -> Tally {
     if keys.len() <= rank {
-        return ask_sound(tally, image, 0, 0);
+        return look_up(tally, keys, image, 0, 0);
     }
     let a = at_rank(image, rank);
     let holder = a.holder;
     let slot = a.slot;
     let mut t = expect(tally, FINDS, testing::key_of(holder, slot) == keys[rank]);
-    t = expect(t, LOOKUPS, is_right(keys, image, holder, slot));
-    t = expect(t, LOOKUPS, is_right(keys, image, holder ^ 1, slot));
-    t = expect(t, LOOKUPS, is_right(keys, image, holder, slot ^ 4));
-    t = ask_sound(t, image, holder, slot);
-    t = ask_sound(t, image, holder ^ 1, slot);
-    ask_sound(t, image, holder, slot ^ 4)
+    let bit = one_bit(rank);
+    t = look_up(t, keys, image, holder, slot);
+    t = look_up(t, keys, image, holder ^ 1, slot);
+    t = look_up(t, keys, image, holder, slot ^ 4);
+    t = look_up(t, keys, image, holder ^ bit, slot);
+    look_up(t, keys, image, holder, slot ^ bit)
 }
 
 // A rectangle between two ranks' admissions, where these are its corners.

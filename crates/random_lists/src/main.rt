@@ -7,6 +7,8 @@ mod cards;
 mod damage;
 mod eight;
 mod history;
+mod leaving;
+mod links;
 mod pairs;
 mod path;
 mod patience;

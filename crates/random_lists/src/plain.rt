@@ -47,6 +47,11 @@ pub fn on_bits(image: &[u8], from: usize, to: usize) -> usize {
     n
 }
 
+// The first bit of a page's node.
+pub fn node_bit(page: usize, node: usize) -> usize {
+    8 * (64 * (page % 65536) + 4) + 2 * (node % 1024)
+}
+
 fn page_count(image: &[u8], band: usize) -> usize {
     number(image, 8 + 4 * (band % 8))
 }

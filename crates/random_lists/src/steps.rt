@@ -1,11 +1,16 @@
 // A plain reader of the steps of the eight-page lookup on any bytes, written from the paper: bit by bit, and slow. It uses the library's types and
 // none of its functions. Bands and levels are counted from 0.
+use crate::leaving::Step;
+use crate::leaving::leave;
+use crate::leaving::leave_off;
+use crate::leaving::refused;
+use crate::links::links_left;
 use crate::plain::add;
 use crate::plain::bit;
 use crate::plain::first_page;
 use crate::plain::header_refusal;
 use crate::plain::less;
-use crate::plain::limit;
+use crate::plain::node_bit;
 use crate::plain::number;
 use crate::plain::on_bits;
 use crate::plain::root_count;
@@ -14,14 +19,6 @@ use paged_lookup::Presence;
 
 // Stands for an off bit; no count of a page's on bits is as large.
 const OFF: usize = 65536;
-
-// What a band does with a key: the number of the question that got a no, or 0; whether an off bit ended the walk; the next root, and the page read.
-struct Step {
-    refusal: u8,
-    is_off: bool,
-    root: usize,
-    page: usize,
-}
 
 // T, and B.
 fn t_of(image: &[u8], page: usize) -> usize {
@@ -61,11 +58,6 @@ fn page_roots(image: &[u8], page: usize, end: usize, band: usize) -> usize {
         root_count(image, band)
     };
     less(next_t, t_of(image, page))
-}
-
-// The first bit of a page's node.
-fn node_bit(page: usize, node: usize) -> usize {
-    8 * (64 * (page % 65536) + 4) + 2 * (node % 1024)
 }
 
 // The on bits of a page's nodes from one up to another.
@@ -156,61 +148,55 @@ fn follow(
     next_node(image, page, starts[3], fourth, key, level + 3)
 }
 
-fn refused(refusal: u8) -> Step {
-    Step {
-        refusal,
-        is_off: false,
-        root: 0,
-        page: 0,
+// The four bits of a key in a band, as a number; past an off bit 0, since only what lies before the root counts there.
+fn path_of(key: u32, band: usize, is_off: bool) -> usize {
+    if is_off {
+        return 0;
     }
+    ((key >> (28 - 4 * (band % 8))) % 16) as usize
 }
 
-// The key in a page that 27 and 9 gave a yes, and 28 on leaving its band.
+// The key in a page that 27 and 9 gave a yes, from the step before, and out of its band.
 fn through_page(
     image: &[u8],
     page: usize,
     roots: usize,
-    root: usize,
+    from: Step,
     key: u32,
     band: usize,
 ) -> Step {
     let starts = level_starts(image, page, roots);
     let refusal = nodes_refusal(image, page, starts[4]);
     if refusal != 0 {
-        return refused(refusal);
+        return refused(refusal, from.is_off);
     }
-    let before = follow(
-        image,
-        page,
-        starts,
-        less(root, t_of(image, page)),
-        key,
-        band,
-    );
-    let next = add(b_of(image, page), before);
-    if before != OFF && limit(image, band) <= next {
-        return refused(28);
+    let root = less(from.root, t_of(image, page));
+    let before = if from.is_off {
+        OFF
+    } else {
+        follow(image, page, starts, root, key, band)
+    };
+    let b = b_of(image, page);
+    if before != OFF {
+        return leave(image, band, page, add(b, before));
     }
-    Step {
-        refusal: 0,
-        is_off: before == OFF,
-        root: next,
-        page,
-    }
+    let path = path_of(key, band, from.is_off);
+    let left = links_left(image, page, starts, root, path);
+    leave_off(image, band, page, add(b, left))
 }
 
-// The key in a band, from a root.
-fn through(image: &[u8], band: usize, root: usize, key: u32) -> Step {
+// The key in a band, from the step before.
+fn through(image: &[u8], band: usize, from: Step, key: u32) -> Step {
     let end = first_page(image, add(band, 1));
-    let page = last_page(image, first_page(image, band), end, root);
+    let page = last_page(image, first_page(image, band), end, from.root);
     if page == 0 {
-        return refused(27);
+        return refused(27, from.is_off);
     }
     let roots = page_roots(image, page, end, band);
     if roots == 0 || 60 < roots {
-        return refused(9);
+        return refused(9, from.is_off);
     }
-    through_page(image, page, roots, root, key, band)
+    through_page(image, page, roots, from, key, band)
 }
 
 // The last step of a walk, and the pages read.
@@ -222,10 +208,10 @@ struct Walked {
 // The walk one band on, unless it has ended.
 fn next_band(image: &[u8], walked: Walked, band: usize, key: u32) -> Walked {
     let before = walked.step;
-    if before.refusal != 0 || before.is_off {
+    if before.refusal != 0 || before.is_last {
         return walked;
     }
-    let step = through(image, band, before.root, key);
+    let step = through(image, band, before, key);
     let mut pages = walked.pages;
     pages[band % 8] = (step.page % 65536) as u32;
     Walked { step, pages }
@@ -237,6 +223,7 @@ fn walk(image: &[u8], key: u32) -> Walked {
         step: Step {
             refusal: 0,
             is_off: false,
+            is_last: false,
             root: 0,
             page: 0,
         },
@@ -257,14 +244,14 @@ fn without_pages(answer: Presence) -> Found {
     }
 }
 
-// What a walk found: out of the last band the root is the rank.
+// What a walk found: out of the last band the root is the rank, or past an off bit the number of smaller keys.
 fn found(walked: Walked) -> Found {
     let step = walked.step;
     if step.refusal != 0 {
         return without_pages(Presence::Refused(step.refusal));
     }
     if step.is_off {
-        return without_pages(Presence::Absent);
+        return without_pages(Presence::Absent((step.root % 65536) as u32));
     }
     let pages = walked.pages;
     Found {
@@ -273,13 +260,37 @@ fn found(walked: Walked) -> Found {
     }
 }
 
-pub fn lookup(image: &[u8], holder: u16, slot: u16) -> Found {
+// The steps' answer, and whether a bit was off: a refusal came past it then.
+pub struct Answered {
+    pub found: Found,
+    pub is_off: bool,
+}
+
+// An answer by the header alone.
+fn at_once(answer: Presence) -> Answered {
+    Answered {
+        found: without_pages(answer),
+        is_off: false,
+    }
+}
+
+pub fn answer(image: &[u8], holder: u16, slot: u16) -> Answered {
     let refusal = header_refusal(image);
     if refusal != 0 {
-        return without_pages(Presence::Refused(refusal));
+        return at_once(Presence::Refused(refusal));
     }
     if number(image, 6) == 0 {
-        return without_pages(Presence::Absent);
+        return at_once(Presence::Absent(0));
     }
-    found(walk(image, testing::key_of(holder, slot)))
+    let walked = walk(image, testing::key_of(holder, slot));
+    let step = walked.step;
+    Answered {
+        found: found(walked),
+        is_off: step.is_off,
+    }
+}
+
+pub fn lookup(image: &[u8], holder: u16, slot: u16) -> Found {
+    let all = answer(image, holder, slot);
+    all.found
 }

@@ -9,7 +9,7 @@ pub struct Tally {
     pub counts: [u32; PLACES],
 }
 
-const PLACES: usize = 103;
+const PLACES: usize = 104;
 
 pub const LISTS: usize = 41;
 
@@ -55,9 +55,12 @@ pub const EIGHT_LISTED: usize = 59;
 
 pub const EIGHT_ABSENT: usize = 60;
 
-const DIFFERENCES: usize = 61;
+// Of the refused ones, those that had an off bit before.
+pub const EIGHT_PAST_OFF: usize = 61;
 
-pub const EIGHT_REFUSED: usize = 62;
+const DIFFERENCES: usize = 62;
+
+pub const EIGHT_REFUSED: usize = 63;
 
 pub fn none() -> Tally {
     Tally {
@@ -157,7 +160,8 @@ fn say_eight(tally: Tally) {
     let text: &[u8] = b"\
         eight-page lookups in damaged images\n\
         listed\n\
-        absent\n";
+        absent\n\
+        refused past an off bit\n";
     say_counts(tally, EIGHT_DAMAGED, DIFFERENCES, text);
 }
 

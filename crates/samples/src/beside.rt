@@ -60,7 +60,7 @@ pub fn order(tally: Tally) -> Tally {
         9: T 16 again in page 14, which has 96 roots: key 1024 of root 64\n\
         T 16 again in page 14: key 1792 of root 112 is found in page 15\n\
         T 16 again in page 14: key 4095 is found in page 23\n\
-        T 16 again in page 14: key 4096 is absent in band 5\n";
+        T 16 again in page 14: key 4096 is absent in band 5, 4,096 smaller\n";
     let again = begun_again();
     let image: &[u8] = &again;
     let mut t = finds_beside(tally, names, image, 0, 0, in_page(1280, 13), 9);
@@ -69,7 +69,7 @@ pub fn order(tally: Tally) -> Tally {
     t = finds_beside(t, names, image, 0, 32, refused(9), 9);
     t = finds_beside(t, names, image, 16, 48, in_page(1792, 15), 9);
     t = finds_beside(t, names, image, 63, 63, in_page(4095, 23), 9);
-    finds_beside(t, names, image, 0, 64, absent(), 9)
+    finds_beside(t, names, image, 0, 64, absent(4096), 9)
 }
 
 // Keys 0 to 4095 with the T's of the pages 10 and 11 changed for each other: 0, 16, 48, 32, 64 and so on.
@@ -147,24 +147,24 @@ pub fn last_pages(tally: Tally) -> Tally {
 pub fn other_pages(tally: Tally) -> Tally {
     let names: &[u8] = b"\
         8 in the full lookup alone: B of page 9 one more, key 944 of page 8\n\
-        8 in the full lookup alone: B of page 9 one more, an absent key of page 9\n\
+        28, and 8 in the full lookup: B of page 9 one more, an absent key of page 9\n\
         8 in the full lookup alone: B of page 9 one less, its key has rank 59\n\
         10 in the full lookup alone: a node of page 9 00, key 944 of page 8\n\
         10 in both: a node of page 9 00, its key\n\
         10 in the full lookup alone: a node of page 8 00, key 960 of page 9\n\
         10 in the full lookup alone: 243 nodes in page 8, key 960 of page 9\n\
         11 in the full lookup alone: a pair after the last node of page 9, key 944 of page 8\n\
-        11 in the full lookup alone: a pair after the last node of page 9, an absent key of page 8\n\
+        11 in the full lookup alone: a pair after the last node of page 9, an absent key of page 8, 1 smaller\n\
         11 in both: a pair after the last node of page 9, its key\n";
     let mut t = beside_two(tally, names, 579, 61, 28, 20, in_page(59, 8), 8);
-    t = beside_two(t, names, 579, 61, 24, 25, absent(), 8);
+    t = beside_two(t, names, 579, 61, 24, 25, refused(28), 8);
     t = beside_two(t, names, 579, 59, 24, 24, in_page(59, 9), 8);
     t = beside_two(t, names, 580, 0xa8, 28, 20, in_page(59, 8), 10);
     t = beside_two(t, names, 580, 0xa8, 24, 24, refused(10), 10);
     t = beside_two(t, names, 516, 0x2a, 24, 24, in_page(60, 9), 10);
     t = beside_two(t, names, 516, 0xea, 24, 24, in_page(60, 9), 10);
     t = beside_two(t, names, 581, 1, 28, 20, in_page(59, 8), 11);
-    t = beside_two(t, names, 581, 1, 0, 1, absent(), 11);
+    t = beside_two(t, names, 581, 1, 0, 1, absent(1), 11);
     beside_two(t, names, 581, 1, 24, 24, refused(11), 11)
 }
 
@@ -182,7 +182,7 @@ pub fn packing(tally: Tally) -> Tally {
         10, and 9 in the full lookup: page 23 with 32 roots, key 4095\n\
         12 in the full lookup alone: a page for 4 nodes more, key 0 of page 8\n\
         12 in the full lookup alone: a page for 4 nodes more, key 944 of page 9\n\
-        12 in the full lookup alone: a page for 4 nodes more, key 960 absent\n";
+        12 in the full lookup alone: a page for 4 nodes more, key 960 absent, 60 smaller\n";
     let none = no_root();
     let image: &[u8] = &none;
     let early = early_page();
@@ -191,14 +191,14 @@ pub fn packing(tally: Tally) -> Tally {
     t = finds_beside(t, names, image, 63, 63, refused(10), 9);
     t = finds_beside(t, names, packed, 0, 0, in_page(0, 8), 12);
     t = finds_beside(t, names, packed, 28, 20, in_page(59, 9), 12);
-    finds_beside(t, names, packed, 24, 24, absent(), 12)
+    finds_beside(t, names, packed, 24, 24, absent(60), 12)
 }
 
 // Counts that do not fit the out-links: 13. Slot 16384 is of the second out-link of band 1.
 pub fn sums(tally: Tally) -> Tally {
     let names: &[u8] = b"\
         13 in the full lookup alone: the key count one more, key 960 of the last rank\n\
-        13 in the full lookup alone: the key count one more, an absent key\n\
+        13 in the full lookup alone: the key count one more, an absent key, 61 smaller\n\
         13 in the full lookup alone: the key count one less, key 944\n\
         13 in the full lookup alone: a root count one more, key 0 of page 8\n\
         10, and 13 in the full lookup: a root count one more, key 960 of page 9\n\
@@ -207,7 +207,7 @@ pub fn sums(tally: Tally) -> Tally {
         13 in the full lookup alone: two out-links and one key, key 0\n\
         28, and 13 in the full lookup: the second out-link of band 8, key 1\n";
     let mut t = beside_two(tally, names, 7, 62, 24, 24, in_page(60, 9), 13);
-    t = beside_two(t, names, 7, 62, 24, 25, absent(), 13);
+    t = beside_two(t, names, 7, 62, 24, 25, absent(61), 13);
     t = beside_two(t, names, 7, 60, 28, 20, in_page(59, 8), 13);
     t = beside_two(t, names, 39, 62, 0, 0, in_page(0, 8), 13);
     t = beside_two(t, names, 39, 62, 24, 24, refused(10), 13);

@@ -17,12 +17,12 @@ use crate::spread::far_apart_image;
 pub fn single_pages(tally: Tally) -> Tally {
     let names: &[u8] = b"\
         both lookups: key 0 alone, in the pages 1 to 8\n\
-        both lookups: key 1 beside key 0 alone, absent\n\
-        both lookups: the last key of all beside key 0 alone, absent\n\
+        both lookups: key 1 beside key 0 alone, absent: 1 smaller\n\
+        both lookups: the last key of all beside key 0 alone, absent: 1 smaller\n\
         both lookups: plate 9 for lift 7, key 1\n\
-        both lookups: plate 9 for lift 7, key 2 absent\n\
-        both lookups: the empty list, key 0 absent\n\
-        both lookups: the empty list, the last key of all absent\n";
+        both lookups: plate 9 for lift 7, key 2 absent: 2 smaller\n\
+        both lookups: the empty list, key 0 absent: 0 smaller\n\
+        both lookups: the empty list, the last key of all absent: 0 smaller\n";
     let key = one_key();
     let one: &[u8] = &key;
     let lift = image_for(7);
@@ -30,12 +30,12 @@ pub fn single_pages(tally: Tally) -> Tally {
     let empty = no_key();
     let none: &[u8] = &empty;
     let mut t = both_find(tally, names, one, 0, 0, in_page(0, 8));
-    t = both_find(t, names, one, 0, 1, absent());
-    t = both_find(t, names, one, 65535, 65535, absent());
+    t = both_find(t, names, one, 0, 1, absent(1));
+    t = both_find(t, names, one, 65535, 65535, absent(1));
     t = both_find(t, names, pair, 0, 1, in_page(1, 8));
-    t = both_find(t, names, pair, 1, 0, absent());
-    t = both_find(t, names, none, 0, 0, absent());
-    both_find(t, names, none, 65535, 65535, absent())
+    t = both_find(t, names, pair, 1, 0, absent(2));
+    t = both_find(t, names, none, 0, 0, absent(0));
+    both_find(t, names, none, 65535, 65535, absent(0))
 }
 
 // The two pages of 61 subtries. Key 944 is holder 28, slot 20; key 960 is holder 24, slot 24; key 976, holder 24, slot 28, has its off bit in band 7.
@@ -44,17 +44,17 @@ pub fn subtries(tally: Tally) -> Tally {
         both lookups: 61 subtries, the first key of page 8\n\
         both lookups: 61 subtries, the last key of page 8\n\
         both lookups: 61 subtries, the key of page 9\n\
-        both lookups: 61 subtries, an absent key of page 8\n\
-        both lookups: 61 subtries, an absent key of page 9\n\
-        both lookups: 61 subtries, a key absent in band 7\n";
+        both lookups: 61 subtries, an absent key of page 8: 1 smaller\n\
+        both lookups: 61 subtries, an absent key of page 9: 61 smaller\n\
+        both lookups: 61 subtries, a key absent in band 7: 61 smaller\n";
     let pages = two_pages();
     let image: &[u8] = &pages;
     let mut t = both_find(tally, names, image, 0, 0, in_page(0, 8));
     t = both_find(t, names, image, 28, 20, in_page(59, 8));
     t = both_find(t, names, image, 24, 24, in_page(60, 9));
-    t = both_find(t, names, image, 0, 1, absent());
-    t = both_find(t, names, image, 24, 25, absent());
-    both_find(t, names, image, 24, 28, absent())
+    t = both_find(t, names, image, 0, 1, absent(1));
+    t = both_find(t, names, image, 24, 25, absent(61));
+    both_find(t, names, image, 24, 28, absent(61))
 }
 
 // The image of keys 0 to 4095: band 8 has the pages 8 to 23, of 16 roots and 256 keys each.
@@ -75,7 +75,7 @@ pub fn dense_pages(tally: Tally) -> Tally {
         both lookups: keys 0 to 4095, key 2048 in page 16\n\
         both lookups: keys 0 to 4095, key 3840 in page 23\n\
         both lookups: keys 0 to 4095, key 4095 in page 23\n\
-        both lookups: keys 0 to 4095, key 4096 absent\n";
+        both lookups: keys 0 to 4095, key 4096 absent: 4,096 smaller\n";
     let written = dense();
     let image: &[u8] = &written;
     let mut t = both_find(tally, names, image, 0, 0, in_page(0, 8));
@@ -85,7 +85,7 @@ pub fn dense_pages(tally: Tally) -> Tally {
     t = both_find(t, names, image, 32, 0, in_page(2048, 16));
     t = both_find(t, names, image, 48, 48, in_page(3840, 23));
     t = both_find(t, names, image, 63, 63, in_page(4095, 23));
-    both_find(t, names, image, 0, 64, absent())
+    both_find(t, names, image, 0, 64, absent(4096))
 }
 
 // Several pages in each of the bands 3 to 8. Rank r is in root r / 16 of band 3, 16 roots a page, and in root r of the later bands, 60 roots a page.
@@ -95,7 +95,7 @@ pub fn far_apart(tally: Tally) -> Tally {
         both lookups: keys 0, 2^20 to 4,095 x 2^20, rank 2,050\n\
         both lookups: keys 0, 2^20 to 4,095 x 2^20, rank 3,415\n\
         both lookups: keys 0, 2^20 to 4,095 x 2^20, the last\n\
-        both lookups: keys 0, 2^20 to 4,095 x 2^20, key 1 absent\n";
+        both lookups: keys 0, 2^20 to 4,095 x 2^20, key 1 absent: 1 smaller\n";
     let written = far_apart_image();
     let image: &[u8] = &written;
     let first = listed(0, [1, 2, 3, 19, 88, 157, 226, 295]);
@@ -106,7 +106,7 @@ pub fn far_apart(tally: Tally) -> Tally {
     t = both_find(t, names, image, 33792, 0, middle);
     t = both_find(t, names, image, 33792, 64512, later);
     t = both_find(t, names, image, 64512, 64512, last);
-    both_find(t, names, image, 0, 1, absent())
+    both_find(t, names, image, 0, 1, absent(1))
 }
 
 // A case: both lookups refuse the image of key 0, with another byte at a place, with `n`.

@@ -1,4 +1,4 @@
-// Where the eight-page lookup ends with 27, 9 to 11 or 28, and where the key's off bit ends it before.
+// Where the eight-page lookup ends with 27, 9 to 11 or 28, and where all keys lie left of the key's off bit, so that it ends before.
 use crate::found::absent;
 use crate::found::finds;
 use crate::found::finds_byte;
@@ -20,7 +20,7 @@ pub fn band_pages(tally: Tally) -> Tally {
         27: T of band 8's page above root 0\n\
         27: T of band 8's page above root 0, for a key absent there\n\
         27: T of band 2's page above root 0\n\
-        absent: T of band 2's page above root 0, for a key whose first bit is off\n";
+        absent, 1 smaller: T of band 2's page above root 0, for a key whose first bit is off\n";
     let mut t = finds_byte(tally, names, 65, 1, 0, 0, refused(27));
     t = finds_byte(t, names, 65, 1, 65535, 65535, refused(27));
     t = finds_byte(t, names, 64, 1, 0, 0, refused(27));
@@ -28,7 +28,7 @@ pub fn band_pages(tally: Tally) -> Tally {
     t = finds_byte(t, names, 513, 1, 0, 0, refused(27));
     t = finds_byte(t, names, 513, 1, 0, 1, refused(27));
     t = finds_byte(t, names, 129, 1, 0, 0, refused(27));
-    finds_byte(t, names, 129, 1, 65535, 65535, absent())
+    finds_byte(t, names, 129, 1, 65535, 65535, absent(1))
 }
 
 // The two pages with each T, and the root count of band 8, one more: every root but 0 leads to the subtrie before its own, and 9 to 11 get a yes in either page.
@@ -73,7 +73,7 @@ fn more_roots() -> [u8; 640] {
     image
 }
 
-// 9. It never finds 0 roots: the root that led to the page is one of them, or 27 or 28 came first.
+// 9. It never finds 0 roots: the root that led to the page is one of them, or 27 or 28 came first, or a figure at the limit.
 pub fn root_counts(tally: Tally) -> Tally {
     let names: &[u8] = b"\
         9: 61 roots by T of the next page, key 0 of root 0\n\
@@ -107,8 +107,8 @@ pub fn page_nodes(tally: Tally) -> Tally {
         11: a pair after the last node of band 1\n\
         11: the last pair of band 8's page\n\
         11: the last pair of band 8's page, for a key absent there\n\
-        absent: a node of band 2 00, for a key whose first bit is off\n\
-        absent: a pair after the last node of band 2, for a key whose first bit is off\n";
+        absent, 1 smaller: a node of band 2 00, for a key whose first bit is off\n\
+        absent, 1 smaller: a pair after the last node of band 2, for a key whose first bit is off\n";
     let mut t = finds_byte(tally, names, 68, 0x2a, 0, 0, refused(10));
     t = finds_byte(t, names, 68, 0x2a, 65535, 65535, refused(10));
     t = finds_byte(t, names, 516, 0xa8, 0, 0, refused(10));
@@ -119,8 +119,8 @@ pub fn page_nodes(tally: Tally) -> Tally {
     t = finds_byte(t, names, 69, 0x40, 0, 0, refused(11));
     t = finds_byte(t, names, 575, 1, 0, 0, refused(11));
     t = finds_byte(t, names, 575, 1, 0, 1, refused(11));
-    t = finds_byte(t, names, 132, 0x2a, 65535, 65535, absent());
-    finds_byte(t, names, 133, 0x40, 65535, 65535, absent())
+    t = finds_byte(t, names, 132, 0x2a, 65535, 65535, absent(1));
+    finds_byte(t, names, 133, 0x40, 65535, 65535, absent(1))
 }
 
 // The image of key 0 with B 1 in band 3's page and T 2 in band 4's.
@@ -130,7 +130,7 @@ fn two_heads_wrong() -> [u8; 576] {
     image
 }
 
-// 28 by B, with one page and one root in each band. Slot 1024 has its off bit in band 3.
+// 28 by B, with one page and one root in each band. Slot 1024 has its off bit in band 3, with one on bit left of it: its figure is B + 1.
 pub fn links(tally: Tally) -> Tally {
     let names: &[u8] = b"\
         28: out of band 1 with 1, the root count of band 2\n\
@@ -139,18 +139,18 @@ pub fn links(tally: Tally) -> Tally {
         28: out of band 7 with 1, the root count of band 8\n\
         28: out of band 8 with 1, the key count\n\
         28: out of band 3 with 1, found before 27 in band 4\n\
-        absent: an off bit in band 3's page, whose B is 1\n\
-        absent: an off bit in band 3's page, whose B is 65,280\n\
-        absent: an off bit in band 8's page, whose B is 1\n";
+        28: an off bit in band 3's page, whose B is 1: figure 2, above the root count of band 4\n\
+        28: an off bit in band 3's page, whose B is 65,280\n\
+        28: an off bit in band 8's page, whose B is 1: figure 2, above the key count\n";
     let mut t = finds_byte(tally, names, 67, 1, 0, 0, refused(28));
     t = finds_byte(t, names, 195, 1, 0, 0, refused(28));
     t = finds_byte(t, names, 194, 255, 0, 0, refused(28));
     t = finds_byte(t, names, 451, 1, 0, 0, refused(28));
     t = finds_byte(t, names, 515, 1, 0, 0, refused(28));
     t = finds(t, names, &two_heads_wrong(), 0, 0, refused(28));
-    t = finds_byte(t, names, 195, 1, 0, 1024, absent());
-    t = finds_byte(t, names, 194, 255, 0, 1024, absent());
-    finds_byte(t, names, 515, 1, 0, 1, absent())
+    t = finds_byte(t, names, 195, 1, 0, 1024, refused(28));
+    t = finds_byte(t, names, 194, 255, 0, 1024, refused(28));
+    finds_byte(t, names, 515, 1, 0, 1, refused(28))
 }
 
 // 28 with several roots, on both sides. Key 768, holder 16 and slot 16, is in the last of band 7's four roots.
@@ -206,4 +206,19 @@ pub fn large_links(tally: Tally) -> Tally {
     t = finds(t, names, &largest_b(8), 0, 0, refused(28));
     t = finds(t, names, &largest_b(8), 0, 4, refused(28));
     finds(t, names, &largest_b(7), 0, 4, refused(28))
+}
+
+// The same past an off bit. A figure may be equal to the key count. Key 976, holder 24 and slot 28, has its off bit in band 7, right of 61 on bits.
+pub fn large_figures(tally: Tally) -> Tally {
+    let names: &[u8] = b"\
+        absent, 2 smaller: figure 2 out of band 8, key count 2\n\
+        absent, 4,096 smaller: figure 4,096 out of band 8, the key count\n\
+        28: figure 4,097 out of band 8, above key count 4,096\n\
+        28: figure 65,536 out of band 8\n\
+        28: figure 65,596 out of band 7\n";
+    let mut t = finds(tally, names, &counted(0, 2, 0, 1), 0, 1, absent(2));
+    t = finds(t, names, &counted(16, 0, 15, 255), 0, 1, absent(4096));
+    t = finds(t, names, &counted(16, 0, 16, 0), 0, 1, refused(28));
+    t = finds(t, names, &largest_b(8), 0, 1, refused(28));
+    finds(t, names, &largest_b(7), 24, 28, refused(28))
 }

@@ -1,4 +1,4 @@
-// What the cases of the eight-page lookup compare: whole answers, of one lookup or of both.
+// What the cases of both lookups compare: whole answers, of one lookup or of both.
 use crate::images::two_pages_with;
 use crate::images::with_byte;
 use crate::say::Tally;
@@ -7,6 +7,8 @@ use answers::are_same;
 use paged_lookup::Found;
 use paged_lookup::Presence;
 use paged_lookup::no_pages;
+use testing::holder_of;
+use testing::slot_of;
 
 pub fn listed(rank: u32, pages: [u32; 8]) -> Found {
     Found {
@@ -20,8 +22,9 @@ pub fn in_page(rank: u32, last: u32) -> Found {
     listed(rank, [1, 2, 3, 4, 5, 6, 7, last])
 }
 
-pub fn absent() -> Found {
-    no_pages(Presence::Absent)
+// Absent, where so many keys are smaller.
+pub fn absent(smaller: u32) -> Found {
+    no_pages(Presence::Absent(smaller))
 }
 
 pub fn refused(n: u8) -> Found {
@@ -100,4 +103,36 @@ pub fn finds_beside(
         return case(tally, names, false);
     }
     finds(tally, names, image, holder, slot, expected)
+}
+
+// A case: both lookups find a key absent, and so many keys smaller.
+pub fn both_absent(tally: Tally, names: &[u8], image: &[u8], key: u32, smaller: u32) -> Tally {
+    both_find(
+        tally,
+        names,
+        image,
+        holder_of(key),
+        slot_of(key),
+        absent(smaller),
+    )
+}
+
+// A case: the eight-page lookup of a key gives this answer, and the full one refuses with `n`.
+pub fn finds_key_beside(
+    tally: Tally,
+    names: &[u8],
+    image: &[u8],
+    key: u32,
+    expected: Found,
+    n: u8,
+) -> Tally {
+    finds_beside(
+        tally,
+        names,
+        image,
+        holder_of(key),
+        slot_of(key),
+        expected,
+        n,
+    )
 }

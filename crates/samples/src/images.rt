@@ -40,6 +40,48 @@ pub fn image_for(lift: u32) -> [u8; 576] {
     image
 }
 
+// The image of the last key of all: one root a band, every node 01.
+pub fn last_key() -> [u8; 576] {
+    let mut image = [0u8; 576];
+    let keys = [4294967295u32; 1];
+    writer::write_either(&keys, 0, &mut image);
+    image
+}
+
+// The same with another byte at a place.
+pub fn last_key_with(at: usize, byte: u8) -> [u8; 576] {
+    let mut image = last_key();
+    if at < 576 {
+        image[at] = byte;
+    }
+    image
+}
+
+// The image of three keys, 0, 0x99999999 and the last of all: three roots in each of the bands 2 to 8, of one out-link each.
+pub fn three_keys() -> [u8; 576] {
+    let mut image = [0u8; 576];
+    let keys: [u32; 3] = [0, 0x99999999, 4294967295];
+    writer::write_either(&keys, 0, &mut image);
+    image
+}
+
+// The image of the eight keys of document 004, plate 12: one root in each of the bands 1 to 7, and five in band 8, of 1, 1, 3, 2 and 1 keys.
+pub fn eight_keys() -> [u8; 576] {
+    let mut image = [0u8; 576];
+    let keys: [u32; 8] = [3, 44, 128, 133, 136, 160, 172, 192];
+    writer::write_either(&keys, 0, &mut image);
+    image
+}
+
+// The same with another byte at a place.
+pub fn eight_keys_with(at: usize, byte: u8) -> [u8; 576] {
+    let mut image = eight_keys();
+    if at < 576 {
+        image[at] = byte;
+    }
+    image
+}
+
 // The keys 0, `step`, twice `step` and so on, as numbers below 2 ^ 32.
 pub fn steps(step: u32) -> [u32; 4097] {
     let mut keys = [0u32; 4097];
@@ -73,6 +115,31 @@ pub fn two_pages() -> [u8; 640] {
 pub fn two_pages_with(at: usize, byte: u8) -> [u8; 640] {
     let mut image = two_pages();
     if at < 640 {
+        image[at] = byte;
+    }
+    image
+}
+
+// Keys with 2 ^ 24 between them, but for rank 60: 0x3c999999 in place of 0x3c000000, so that it has room for other keys left of it.
+fn far_keys() -> [u32; 4097] {
+    let mut keys = steps(16777216);
+    keys[60] = 0x3c999999;
+    keys
+}
+
+// The image of 256 such keys: band 3 begins with page 3, and each of the bands 3 to 8 has five pages, of 60, 60, 60, 60 and 16 subtries of 4 nodes. Rank 60 is the first
+// key of the second pages.
+pub fn five_pages() -> [u8; 2112] {
+    let keys = far_keys();
+    let mut image = [0u8; 2112];
+    writer::write_either(&keys[0..256], 0, &mut image);
+    image
+}
+
+// The same with another byte at a place.
+pub fn five_pages_with(at: usize, byte: u8) -> [u8; 2112] {
+    let mut image = five_pages();
+    if at < 2112 {
         image[at] = byte;
     }
     image

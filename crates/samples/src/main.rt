@@ -1,8 +1,10 @@
 // A test: the sample plates that are not proved as theorems, packings at their edges, and every refusal number, through the public jobs.
 // Each case prints a line, and the last line counts those that were right.
 mod beside;
+mod between;
 mod eight_pages;
 mod eight_refusals;
+mod figures;
 mod found;
 mod gates;
 mod holders;
@@ -30,12 +32,29 @@ fn by_eight_pages(tally: say::Tally) -> say::Tally {
     t = eight_refusals::links(t);
     t = eight_refusals::several_links(t);
     t = eight_refusals::large_links(t);
+    t = eight_refusals::large_figures(t);
     t = beside::order(t);
     t = beside::exchanged(t);
     t = beside::last_pages(t);
     t = beside::other_pages(t);
     t = beside::packing(t);
     beside::sums(t)
+}
+
+// The number that comes with "absent": of both lookups in sound images, and of the eight-page lookup in others.
+fn smaller_keys(tally: say::Tally) -> say::Tally {
+    let mut t = between::ends(tally);
+    t = between::neighbours(t);
+    t = between::first_levels(t);
+    t = between::fourth_levels(t);
+    t = between::after_pages(t);
+    t = between::before_pages(t);
+    t = between::longer_lists(t);
+    t = figures::next_band(t);
+    t = figures::further_bands(t);
+    t = figures::other_pages(t);
+    t = figures::limits(t);
+    figures::wrong_counters(t)
 }
 
 fn main() {
@@ -57,6 +76,7 @@ fn main() {
     tally = questions::rectangles(tally);
     tally = questions::ranks(tally);
     tally = by_eight_pages(tally);
+    tally = smaller_keys(tally);
     tally = gates::lockouts(tally);
     tally = gates::limits(tally);
     tally = holders::passed_back(tally);

@@ -198,7 +198,7 @@ fn is_found(image: &[u8], rank: u32, holder: u16, slot: u16) -> bool {
     }
 }
 
-// 20, and lookup. Key 944 is holder 28, slot 20, and key 960 is holder 24, slot 24.
+// 20, and lookup. Key 944 is holder 28, slot 20, and key 960, the last of 61, is holder 24, slot 24.
 pub fn ranks(tally: Tally) -> Tally {
     let names: &[u8] = b"\
         20: rank 61 of 61\n\
@@ -207,8 +207,8 @@ pub fn ranks(tally: Tally) -> Tally {
         20: rank 4,294,967,295\n\
         lookup of the last key of page 8\n\
         lookup of the first key of page 9\n\
-        lookup of an absent key of page 9\n\
-        lookup of the last key of all\n";
+        lookup of an absent key of page 9: 61 smaller\n\
+        lookup of the last key of all, absent: 61 smaller\n";
     let pages = two_pages();
     let image: &[u8] = &pages;
     let mut t = case(tally, names, find_refusal(query::find(image, 61)) == 20);
@@ -225,10 +225,10 @@ pub fn ranks(tally: Tally) -> Tally {
         names,
         are_same(query::lookup(image, 24, 24), in_page(60, 9)),
     );
-    t = case(t, names, are_same(query::lookup(image, 24, 25), absent()));
+    t = case(t, names, are_same(query::lookup(image, 24, 25), absent(61)));
     case(
         t,
         names,
-        are_same(query::lookup(image, 65535, 65535), absent()),
+        are_same(query::lookup(image, 65535, 65535), absent(61)),
     )
 }

@@ -17,16 +17,16 @@ returns c =
 returns-2 : tie.Need-returns-2
 unfolding lookupOutcome
 returns-2 c =
-    let a = c .before .before .args in
-    let told = ap (λ q. lookupOutcome q (a .found .pages)) (c .enum-told .given .1) in
+    let a = c .before .before .before .args in
+    let told = ap (λ q. lookupOutcome q (a .found .pages)) (c .before .presence2 .given .1) in
     (sym (ap encodedLookup told), sym (ap (λ o. lookupBuffer o (a .out .now)) told))
 
 returns-3 : tie.Need-returns-3
 unfolding lookupOutcome
 returns-3 c =
     let a = c .before .before .before .before .args in
-    let told = ap (λ q. lookupOutcome q (a .found .pages)) (c .before .before .presence2 .given .1) in
-    (back-neg (c .refusal .result) (c .before .before .presence2 .given .0 .0) (search needs) (c .refusal .ensures) ∙ sym (ap encodedLookup told), sym (ap (λ o. lookupBuffer o (a .out .now)) told))
+    let told = ap (λ q. lookupOutcome q (a .found .pages)) (c .before .before .presence3 .given .1) in
+    (back-neg (c .refusal .result) (c .before .before .presence3 .given .0 .0) (search needs) (c .refusal .ensures) ∙ sym (ap encodedLookup told), sym (ap (λ o. lookupBuffer o (a .out .now)) told))
 
 pub looked-up-spec : {M : Type 1} → statement M
-looked-up-spec = tie.close (tie.spec (λ c. search needs) (λ c κs. search needs) returns (λ c. search needs) returns-2 (λ c. search needs) (λ c κs. search needs) returns-3)
+looked-up-spec = tie.close (tie.spec (λ c. search needs) (λ c κs. search needs) returns (λ c. search needs) (λ c. search needs) returns-2 (λ c. search needs) (λ c κs. search needs) returns-3)

@@ -29,7 +29,7 @@ returns c = let l = c .before .before .before in image-refused _ _ _ _ _ _ _ _ _
 
 -- ---- an admission that is not listed
 
-is-absent : (c : tie.After-enum-told) → Answered (c .before .before) absent
+is-absent : (c : tie.After-enum-told) → Answered (c .before .before) (absent (c .enum-told .given .0 .0))
 unfolding lookupOutcome
 is-absent c = let l = c .before .before in sym (l .lookup .ensures .0) ∙ ap (λ q. lookupOutcome q (l .lookup .result .pages)) (c .enum-told .given .1)
 
@@ -37,7 +37,7 @@ gate-refusal-requires : tie.Need-gate-refusal-requires
 gate-refusal-requires c κs = header-long _ _ _ _ (is-absent (c .before))
 
 returns-2 : tie.Need-returns-2
-returns-2 c = scanned-absent _ _ _ _ _ _ _ _ _ (is-absent (c .before .before)) (c .gate-refusal .ensures)
+returns-2 c = scanned-absent _ _ _ _ _ _ _ _ _ _ (is-absent (c .before .before)) (c .gate-refusal .ensures)
 
 -- ---- a listed one
 

@@ -23,7 +23,7 @@ returns : tie.Need-returns
 returns c =
     let h = c .before .before .head-of-root .ensures in
     let p = c .before .before .before .before .before .pre in
-    step-head (p .0) (h .0) (h .1 ∙ c .before .before .before .band-at .ensures .1) (h .2) (h .3) (p .2) _ _ _ (c .before .through-accepted-page .ensures) (c .leave .ensures) refl
+    step-head (p .0) (h .0) (h .1 ∙ c .before .before .before .band-at .ensures .1) (h .2) (h .3) (p .2) _ _ _ _ (c .before .through-accepted-page .ensures) (c .leave .ensures) refl
 
 pub through-accepted-spec : {M : Type 1} → statement M
 through-accepted-spec =

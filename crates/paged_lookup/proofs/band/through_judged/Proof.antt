@@ -46,14 +46,14 @@ inner c = root-in (page (n c)) (start (e (n c)) .pre .1)
 returns : tie.Need-returns
 returns c =
     let a = c .before .before .before .before .before in
-    step-none (a .args .image .now) (a .args .key) (a .args .band) (a .args .root .0) _
+    step-none (a .args .image .now) (a .args .key) (a .args .band) (a .args .on) (a .args .root .0) _
     (none-found (a .pre .0) (c .before .before .before .page-count .ensures .0) (c .before .before .pages-upto .ensures) (c .before .if1 .taken)) (c .refused .ensures)
 
 returns-2 : tie.Need-returns-2
 returns-2 c =
     let m = c .before .before .before in
     let r = c .before .before .roots-from .ensures in
-    step-nine _ _ _ _ _ (page m) (roots-no _ _ (sym r ∙ c .before .if2 .taken)) (c .refused2 .ensures)
+    step-nine _ _ _ _ _ _ (page m) (roots-no _ _ (sym r ∙ c .before .if2 .taken)) (c .refused2 .ensures)
 
 through-page-requires : tie.Need-through-page-requires
 through-page-requires c κs =
@@ -65,7 +65,7 @@ through-page-requires c κs =
 returns-3 : tie.Need-returns-3
 returns-3 c =
     let g = c .before .before .before .before in
-    step-left _ _ _ _ _ (page (n g)) (roots g .is) _ (c .before .through-page .ensures) (c .leave .ensures) refl
+    step-left _ _ _ _ _ _ (page (n g)) (roots g .is) _ (c .before .through-page .ensures) (c .leave .ensures) refl
 
 pub through-judged-spec : {M : Type 1} → statement M
 through-judged-spec =
