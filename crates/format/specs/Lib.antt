@@ -32,6 +32,8 @@ pub mod Patience
 pub mod Text
 -- the statement that there is one image per list, version and lift
 pub mod Exact
+-- the statement that the number which an absent admission gets is its rank once it is listed
+pub mod Insertion
 -- the statement that T and B are counts over the trie's pages
 pub mod Counters
 -- the statement of how long an image can be
