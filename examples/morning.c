@@ -29,6 +29,15 @@ static void say(const char *what, int64_t answer)
         printf("%s: %lld\n", what, (long long)answer);
 }
 
+/* What lpt_find answers; before the first and past the last there is none. */
+static void say_admission(const char *what, int64_t answer)
+{
+    if (answer < 0)
+        say(what, answer);
+    else
+        printf("%s: holder %lld, slot %lld\n", what, (long long)(answer / 65536), (long long)(answer % 65536));
+}
+
 int main(void)
 {
     /* Every holder has two mornings and the afternoon between them. */
@@ -100,8 +109,14 @@ int main(void)
         uint32_t eight[9];
         int same = lpt_lookup8(image, (size_t)size, 1007, MORNING, eight) == 1 && memcmp(found, eight, sizeof eight) == 0;
         printf("the eight pages alone say %s\n", same ? "the same" : "otherwise");
-        int64_t back = lpt_find(image, (size_t)size, found[0]);
-        printf("found by rank: holder %lld, slot %lld\n", (long long)(back / 65536), (long long)(back % 65536));
+        say_admission("found by rank", lpt_find(image, (size_t)size, found[0]));
+    }
+
+    /* An admission that is not sold, between its neighbours. */
+    if (lpt_lookup(image, (size_t)size, 1008, MORNING, found) == 0) {
+        printf("holder 1008, slot %d is not listed; %lu stand before it\n", MORNING, (unsigned long)found[0]);
+        say_admission("the last of them", lpt_find(image, (size_t)size, found[0] - 1));
+        say_admission("the next", lpt_find(image, (size_t)size, found[0]));
     }
     return 0;
 }
