@@ -19,6 +19,8 @@ struct Seen {
     holders: BTreeMap<(i64, i64, i64), usize>,
     /// what the eight-page lookup answered where the full one refused
     eight: BTreeMap<i64, usize>,
+    /// absent admissions of sound images: before the first key, between two, and after the last
+    absent: [usize; 3],
 }
 
 impl Seen {
@@ -39,6 +41,7 @@ impl Seen {
             let n = self.eight.get(&x).copied().unwrap_or(0);
             assert!(n >= 10, "{n} eight-page lookups that give {x} where the full one refuses");
         }
+        assert!(self.absent.iter().all(|&n| n >= 10), "absent before, between and after the keys: {:?}", self.absent);
     }
 }
 
@@ -153,11 +156,16 @@ pub fn compare(ds: &[Data], a: &Jobs, b: &Jobs) -> usize {
             assert_eq!((a.lift)(&img), (b.lift)(&img), "lift");
             n += 2;
             for i in 0..12 {
-                let k = if i % 2 == 0 { list[r.below(list.len() as u64) as usize] } else { let (holder, slot) = unweave(d.misses[r.below(1024) as usize]); Admission { holder, slot } };
+                // listed; one of the longer list, which is often absent here; and absent
+                let k = match i % 4 {
+                    0 | 2 => list[r.below(list.len() as u64) as usize],
+                    1 => d.list[r.below(d.list.len() as u64) as usize],
+                    _ => { let (holder, slot) = unweave(d.misses[r.below(1024) as usize]); Admission { holder, slot } }
+                };
                 compare_jobs(d, &img, list.len(), k, i, &mut r, a, b);
-                compare_eight(&img, k, a, b, &mut seen);
                 let other = if i % 5 == 4 { 65536 * r.below(2) as u32 + r.below(2) as u32 } else { 0 };
                 let gate = Gate { img: &img, list: &list, sound, lift: lift + other };
+                compare_eight(&gate, k, a, b, &mut seen);
                 for lane in lanes() {
                     compare_scan(&gate, k, lane, &mut r, a, b, &mut seen);
                 }
@@ -191,16 +199,30 @@ fn compare_jobs(d: &Data, img: &[u8], keys: usize, k: Admission, i: usize, r: &m
     assert!(x == y && u == v, "list {x} {y}");
 }
 
-/// The eight-page lookup, once.
-fn compare_eight(img: &[u8], k: Admission, a: &Jobs, b: &Jobs, seen: &mut Seen) {
+/// The eight-page lookup, once; in a sound image held against the list.
+fn compare_eight(g: &Gate, k: Admission, a: &Jobs, b: &Jobs, seen: &mut Seen) {
     let (mut p, mut q) = ([9u32; 9], [9u32; 9]);
-    let (x, y) = ((a.lookup8)(img, k.holder, k.slot, &mut p), (b.lookup8)(img, k.holder, k.slot, &mut q));
+    let (x, y) = ((a.lookup8)(g.img, k.holder, k.slot, &mut p), (b.lookup8)(g.img, k.holder, k.slot, &mut q));
     assert!((x, p) == (y, q), "lookup8 {x} {y}");
     let mut full = [9u32; 9];
-    let z = (a.lookup)(img, k.holder, k.slot, &mut full);
+    let z = (a.lookup)(g.img, k.holder, k.slot, &mut full);
     if z >= 0 {
         assert!((x, p) == (z, full), "lookup8 {x}, lookup {z}");
+        if g.sound {
+            compare_place(g.list, k, z, full, seen);
+        }
     } else if z < -7 && z != -35 {
         *seen.eight.entry(x).or_insert(0) += 1;
+    }
+}
+
+/// The rank of a listed admission, or the number of smaller keys, in a list; the page numbers only of a listed one.
+fn compare_place(list: &[Admission], k: Admission, x: i64, places: [u32; 9], seen: &mut Seen) {
+    let smaller = list.partition_point(|a| weave(a.holder, a.slot) < weave(k.holder, k.slot));
+    let listed = list.get(smaller) == Some(&k);
+    assert_eq!((x, places[0] as usize), (listed as i64, smaller), "lookup by the list");
+    if !listed {
+        assert_eq!(places[1..], [9; 8], "the page numbers of an absent one");
+        seen.absent[if smaller == 0 { 0 } else if smaller < list.len() { 1 } else { 2 }] += 1;
     }
 }

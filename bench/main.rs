@@ -5,7 +5,7 @@ use std::collections::BTreeSet;
 use std::fmt::Write as _;
 use std::hint::black_box as bb;
 
-use reference::{unweave, weave, Admission, Rect, LANES, MOST_BYTES};
+use reference::{unweave, weave, Admission, Looked, Rect, LANES, MOST_BYTES};
 
 mod compare;
 
@@ -38,13 +38,19 @@ fn answer<T>(r: Result<T, reference::No>, f: impl FnOnce(T) -> i64) -> i64 {
     }
 }
 
-/// What a lookup found, with the nine places filled where the admission is listed.
-fn found(r: Result<Option<reference::Found>, reference::No>, o: &mut [u32; 9]) -> i64 {
-    answer(r, |f| f.map_or(0, |f| {
-        o[0] = f.rank;
-        o[1..].copy_from_slice(&f.pages);
-        1
-    }))
+/// What a lookup found, with the nine places filled where the admission is listed, and the first where it is absent.
+fn found(r: Result<Looked, reference::No>, o: &mut [u32; 9]) -> i64 {
+    answer(r, |x| match x {
+        Looked::Listed(f) => {
+            o[0] = f.rank;
+            o[1..].copy_from_slice(&f.pages);
+            1
+        }
+        Looked::Absent(smaller) => {
+            o[0] = smaller;
+            0
+        }
+    })
 }
 
 fn hand_written() -> Jobs {
@@ -258,7 +264,7 @@ fn rows(d: &'static Data, both: &[Jobs]) -> Vec<Row> {
     for (op, qs, eight) in [("lookup, listed", &d.hits, false), ("lookup, absent", &d.misses, false), ("by eight pages, listed", &d.hits, true), ("by eight pages, absent", &d.misses, true)] {
         add(op, &|j| { let f = if eight { j.lookup8 } else { j.lookup }; case(j.name, 32, move || { let mut o = [0; 9];
             qs[..32].iter().map(|&k| { let (h, s) = unweave(k); f(bb(img), h, s, &mut o) as u64 + o[0] as u64 }).sum() }) },
-            Some(case("sorted array", 1024, move || qs.iter().map(|k| bb(&d.keys).binary_search(k).is_ok() as u64).sum())));
+            Some(case("sorted array", 1024, move || qs.iter().map(|k| bb(&d.keys).binary_search(k).unwrap_or_else(|i| i) as u64).sum())));
     }
     add("find by rank", &|j| { let f = j.find; case(j.name, 32, move || (0..32).map(|k| f(bb(img), k * 127) as u64).sum()) },
         Some(case("sorted array", 1024, move || (0..1024).map(|k| bb(&d.keys)[k * 3] as u64).sum())));

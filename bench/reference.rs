@@ -46,6 +46,13 @@ pub struct Found {
     pub pages: [u32; 8],
 }
 
+/// What a lookup finds: where a listed admission stands, or how many keys are smaller than an absent one's.
+#[derive(Clone, Copy, PartialEq, Eq, Debug)]
+pub enum Looked {
+    Listed(Found),
+    Absent(u32),
+}
+
 // ------------------------------------------------------------------------------------- weaving
 
 static SPREAD: [u16; 256] = {
@@ -101,6 +108,14 @@ struct Head {
     roots: [u32; BANDS],
     /// image page number of each band's first page (pages are numbered from 1)
     first: [u32; BANDS],
+}
+
+impl Head {
+    /// The out-links that a band must have: the next band's roots, or the keys.
+    #[inline]
+    fn due(&self, band: usize) -> u32 {
+        if band < 7 { self.roots[band + 1] } else { self.keys }
+    }
 }
 
 /// Questions 1 to 7, with 35.
@@ -329,7 +344,7 @@ fn bands(img: &[u8], h: &Head) -> Result<(), No> {
             links += s.outs;
             before = s.e4;
         }
-        if links != if band < 7 { h.roots[band + 1] } else { h.keys } {
+        if links != h.due(band) {
             return Err(No(13));
         }
     }
@@ -369,42 +384,89 @@ fn find_page(img: &[u8], h: &Head, band: usize, x: u32, field: fn(&[u8], u32) ->
     lo
 }
 
-/// Follows four bits of the key from a page's root; the out-link's place among the page's
-/// fourth-level on bits.
+/// The node so many levels below: left of it stands all that lies under the nodes left of `node`.
 #[inline]
-fn descend(p: &Page, r: u32, outs_before: u32, root: u32, nib: u32) -> Option<u32> {
+fn first_under(p: &Page, r: u32, node: u32, levels: u32) -> u32 {
+    let mut node = node;
+    for _ in 0..levels {
+        node = r + p.rank(2 * node);
+    }
+    node
+}
+
+/// Follows four bits of the key from a page's root: the fourth-level on bits left of the place reached, and
+/// whether every bit was on.
+#[inline]
+fn descend(p: &Page, r: u32, outs_before: u32, root: u32, nib: u32) -> (u32, bool) {
     let mut node = root;
     for k in 0..4 {
         let at = 2 * node + (nib >> (3 - k) & 1);
-        if !p.bit(at) {
-            return None;
-        }
         node = r + p.rank(at); // at the fourth level: r + on bits before
+        if !p.bit(at) {
+            return (first_under(p, r, node, 3 - k) - r - outs_before, false);
+        }
     }
-    Some(node - r - outs_before)
+    (node - r - outs_before, true)
 }
 
-fn walk(img: &[u8], h: &Head, key: u32) -> Option<Found> {
+/// The fourth-level on bits of a page left of a root's subtrie.
+#[inline]
+fn left_of(p: &Page, r: u32, outs_before: u32, root: u32) -> u32 {
+    first_under(p, r, root, 4) - r - outs_before
+}
+
+/// The page of a root in an accepted image: its number, nodes, T and roots.
+#[inline]
+fn page_of(img: &[u8], h: &Head, band: usize, root: u32) -> (u32, Page, u32, u32) {
+    let no = find_page(img, h, band, root, t_of);
+    let t = t_of(img, no);
+    let last = h.first[band] + h.pages[band] - 1;
+    let r = if no < last { t_of(img, no + 1) } else { h.roots[band] } - t;
+    (no, Page::load(page_bytes(img, no)), t, r)
+}
+
+/// Where a key's walk ends: at its rank, or at an off bit of a band, with the band's out-links left of it.
+enum End {
+    Listed(Found),
+    Off(usize, u32),
+}
+
+fn walk(img: &[u8], h: &Head, key: u32) -> End {
     if h.keys == 0 {
-        return None;
+        return End::Off(7, 0);
     }
     let mut f = Found { rank: 0, pages: [0; 8] };
     for band in 0..BANDS {
-        let no = find_page(img, h, band, f.rank, t_of);
-        let p = Page::load(page_bytes(img, no));
-        let t = t_of(img, no);
-        let last = h.first[band] + h.pages[band] - 1;
-        let r = if no < last { t_of(img, no + 1) } else { h.roots[band] } - t;
-        let o = descend(&p, r, p.node_count() - r, f.rank - t, key >> (28 - 4 * band) & 15)?;
+        let (no, p, t, r) = page_of(img, h, band, f.rank);
+        let (o, on) = descend(&p, r, p.node_count() - r, f.rank - t, key >> (28 - 4 * band) & 15);
         f.rank = b_of(img, no) + o;
         f.pages[band] = no;
+        if !on {
+            return End::Off(band, f.rank);
+        }
     }
-    Some(f)
+    End::Listed(f)
 }
 
-pub fn lookup(img: &[u8], holder: u16, slot: u16) -> Result<Option<Found>, No> {
+/// The keys left of an off bit of a band: in each band below, one page tells what lies left of the root reached.
+fn keys_left(img: &[u8], h: &Head, band: usize, links: u32) -> u32 {
+    let mut x = links;
+    for b in band + 1..BANDS {
+        if x == h.roots[b] {
+            return h.keys;
+        }
+        let (no, p, t, r) = page_of(img, h, b, x);
+        x = b_of(img, no) + left_of(&p, r, p.node_count() - r, x - t);
+    }
+    x
+}
+
+pub fn lookup(img: &[u8], holder: u16, slot: u16) -> Result<Looked, No> {
     let h = accepted(img)?;
-    Ok(walk(img, &h, weave(holder, slot)))
+    Ok(match walk(img, &h, weave(holder, slot)) {
+        End::Listed(f) => Looked::Listed(f),
+        End::Off(band, links) => Looked::Absent(keys_left(img, &h, band, links)),
+    })
 }
 
 // ----------------------------------------------------------------------------- eight-page lookup
@@ -428,26 +490,38 @@ fn taken(img: &[u8], h: &Head, band: usize, root: u32) -> Result<(u32, u32), No>
     }
 }
 
-/// Questions 1 to 7, then one page a band.
-pub fn lookup8(img: &[u8], holder: u16, slot: u16) -> Result<Option<Found>, No> {
+/// Questions 1 to 7, then one page a band; past an off bit too, where `f.rank` is the figure.
+pub fn lookup8(img: &[u8], holder: u16, slot: u16) -> Result<Looked, No> {
     let h = head(img)?;
     if h.keys == 0 {
-        return Ok(None);
+        return Ok(Looked::Absent(0));
     }
     let key = weave(holder, slot);
     let mut f = Found { rank: 0, pages: [0; 8] };
+    let mut on = true;
     for band in 0..BANDS {
         let (no, r) = taken(img, &h, band, f.rank)?;
         let p = Page::load(page_bytes(img, no));
         let s = shape(&p, r)?;
-        let Some(o) = descend(&p, r, s.e4 - r, f.rank - t_of(img, no), key >> (28 - 4 * band) & 15) else { return Ok(None) };
+        let root = f.rank - t_of(img, no);
+        let o = if on {
+            let (o, still) = descend(&p, r, s.e4 - r, root, key >> (28 - 4 * band) & 15);
+            on = still;
+            o
+        } else {
+            left_of(&p, r, s.e4 - r, root)
+        };
         f.rank = b_of(img, no) + o;
         f.pages[band] = no;
-        if f.rank >= if band < 7 { h.roots[band + 1] } else { h.keys } {
+        let due = h.due(band);
+        if f.rank > due || on && f.rank == due {
             return Err(No(28));
         }
+        if f.rank == due {
+            return Ok(Looked::Absent(h.keys));
+        }
     }
-    Ok(Some(f))
+    Ok(if on { Looked::Listed(f) } else { Looked::Absent(f.rank) })
 }
 
 // -------------------------------------------------------------------------------- find by rank
@@ -810,7 +884,7 @@ pub fn scan(img: &[u8], rec: &mut [u32], holder: u16, slot: u16, time: u32, lock
     if *count == u32::MAX {
         return Err(No(23));
     }
-    let Some(f) = walk(img, &h, weave(holder, slot)) else { return Err(No(24)) };
+    let End::Listed(f) = walk(img, &h, weave(holder, slot)) else { return Err(No(24)) };
     let last = Walker::new(img, &h).latest(0, 0, holder, records);
     if last != 0 {
         if time < last - 1 {
