@@ -100,7 +100,7 @@ still-on img key b true root n e = refl
 still-on img key b false root n e =
     let i = pageWith img b root in
     let way-is : wayFrom img key b (off root) ≡ out n = yes-of-returns (rootQuestions img b (number (off root))) _ (out n) (left img b (out n) _ e .0) .1 in
-    absurd (no-out (pageB img b i +_) (follow key (4 * (b - 1)) (pageLevels img b i) (off (root - pageT img b i))) (stays-off key (4 * (b - 1)) (pageLevels img b i) (root - pageT img b i)) way-is)
+    absurd (no-out _ (follow key (4 * (b - 1)) (pageLevels img b i) (off (root - pageT img b i))) (stays-off key (4 * (b - 1)) (pageLevels img b i) (root - pageT img b i)) way-is)
 
 -- a number below those due is no figure that ends the walk
 pub not-all : (img : List ℕ) (b : ℕ) (on : Bool) (n : ℕ) → n < outLinksDue img b → allSmaller img b (wayAt on n) ≡ false
