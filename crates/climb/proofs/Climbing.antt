@@ -8,8 +8,9 @@ use native.Mathlib.Decide.{decLt}
 use native.Mathlib.Omega.{arith}
 use lib.ListN.{length, getD, take}
 use Rattle.format.specs.Trie.{onBits, bit, childAt}
+use Rattle.format.specs.Page.{offset}
 use Rattle.format.specs.Image.{outLinkCount, pageCount, pageLevels, pageNodes, pagePairs, pageRoots, pageT, prefixesAt, depth}
-use Rattle.format.specs.Place.{offset, before, Reached}
+use Rattle.format.specs.Place.{before, Reached}
 use Rattle.format.proofs.Counting.{marks, marks-mono, page-nodes-counted}
 use Rattle.format.proofs.PageFacts.{page-facts}
 use Rattle.format.proofs.Levels.{levelAt, before-roots, childPlace}

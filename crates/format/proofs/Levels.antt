@@ -9,9 +9,9 @@ use lib.ListN.{length, getD, take, drop, take-append-drop}
 use lib.Seq.{take-suc, drop-cons}
 use Rattle.format.specs.Seq.{All, numbersFrom, total, upTo}
 use Rattle.format.specs.Trie.{below, descend, onBits, bit, childAt}
-use Rattle.format.specs.Page.{Byte}
+use Rattle.format.specs.Page.{Byte, offset}
 use Rattle.format.specs.Image.{bandLevel, bandLevels, bands, imageLevels, keyCount, keysOf, outLinkCount, pageB, pageCount, pageLevels, pageNodes, pagePairs, pageRoots, pageT, rootCount, prefixesAt, depth}
-use Rattle.format.specs.Place.{offset, before}
+use Rattle.format.specs.Place.{before}
 use Rattle.format.proofs.Lists.{map-same, all-numbers}
 use Rattle.format.proofs.Trie.{Shape, Nodes, Asc, descend-snoc}
 use Rattle.format.proofs.Shapes.{lastOn, shape-left, shape-right, descend-keys}

@@ -9,8 +9,7 @@ use lib.ListN.{length, getD, take, drop, length-append, List·getD-append}
 use lib.Seq.{getD-append-add, take-append-add, take-append-le}
 use Rattle.format.specs.Seq.{numbersFrom, total}
 use Rattle.format.specs.Trie.{childAt, onBits}
-use Rattle.format.specs.Page.{levelsIn, nodeCount}
-use Rattle.format.specs.Place.{offset}
+use Rattle.format.specs.Page.{levelsIn, nodeCount, offset}
 use Rattle.format.proofs.Trie.{Shape}
 use Rattle.format.proofs.Subtries.{onBits-append}
 use Rattle.format.proofs.Bytes.{length-levelsIn, levels-join}

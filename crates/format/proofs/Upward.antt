@@ -7,10 +7,10 @@ use native.Mathlib.Decide.{decLt}
 use native.Mathlib.Omega.{arith}
 use lib.ListN.{length, getD}
 use Rattle.format.specs.Seq.{All}
-use Rattle.format.specs.Page.{Byte}
+use Rattle.format.specs.Page.{Byte, offset}
 use Rattle.format.specs.Image.{keyCount, pageCount, pageLevels, pageNodes, pagePairs, pageRoots, pageT, prefixesAt, depth}
 use Rattle.format.specs.Trie.{bit}
-use Rattle.format.specs.Place.{offset, before, Reached}
+use Rattle.format.specs.Place.{before, Reached}
 use Rattle.format.proofs.Checked.{Checked}
 use Rattle.format.proofs.Read.{page-four}
 use Rattle.format.proofs.Places.{offset-within}

@@ -12,10 +12,10 @@ use lib.ListN.{length, getD, take, drop, length-drop}
 use lib.Seq.{take-all}
 use Rattle.format.specs.Seq.{All, numbersFrom, rankIn, total, upTo}
 use Rattle.format.specs.Trie.{onBits, bit, childAt}
-use Rattle.format.specs.Page.{Byte}
+use Rattle.format.specs.Page.{Byte, offset}
 use Rattle.format.specs.Image.{bandLevels, imageLevels, keyCount, keysOf, outLinkCount, pageB, pageCount, pageLevels, pageNodes, pagePairs, pageRoots, pageT, rootCount, pageWith, prefixesAt, depth}
 use Rattle.format.specs.Answer.{rootOf}
-use Rattle.format.specs.Place.{offset, before, Reached}
+use Rattle.format.specs.Place.{before, Reached}
 use Rattle.format.proofs.Checked.{Checked}
 use Rattle.format.proofs.Read.{page-four, page-shape, page-roots, next-roots, next-more, next-last, band-roots}
 use Rattle.format.proofs.Back.{image-32, keys-descend}

@@ -3,7 +3,7 @@
 -- Assumes nothing.
 use Prim.Native.Nat.{ℕ, zero, suc, _+_, _*_, _/_, _%_, _<_}
 use mathlib.Core.List.{List, [], _∷_, flatMap}
-use lib.ListN.{getD, take, drop}
+use lib.ListN.{length, getD, take, drop}
 use Rattle.format.specs.Trie.{onBits}
 
 -- the levels of the first r subtries, and the levels of those after them
@@ -25,6 +25,12 @@ nodeCount r (ns ∷ levels) = r + nodeCount (onBits ns) levels
 unfoldable pub levelsIn : ℕ → ℕ → List ℕ → List (List ℕ)
 levelsIn zero r pairs = []
 levelsIn (suc n) r pairs = take r pairs ∷ levelsIn n (onBits (take r pairs)) (drop r pairs)
+
+-- the nodes of a page's first l levels: where level l, from 0, starts in the page's row of pairs
+abbrev pub offset : ℕ → List (List ℕ) → ℕ
+offset zero page = 0
+offset (suc l) [] = 0
+offset (suc l) (ns ∷ page) = length ns + offset l page
 
 -- the four pairs of a byte, the first in the highest bits
 unfoldable pub pairsOf : ℕ → List ℕ

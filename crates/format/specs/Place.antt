@@ -1,17 +1,12 @@
 -- Where the nodes of a page stand: in the page's row of pairs, in the levels of its band and among the prefixes. Contracts of crates below the jobs cite it.
 -- Assumes nothing.
 use mathlib.Core.Path.{_≡_}
-use mathlib.Core.List.{List, [], _∷_, map}
-use Prim.Native.Nat.{ℕ, zero, suc, _+_, _<_}
+use mathlib.Core.List.{List, [], map}
+use Prim.Native.Nat.{ℕ, _+_, _<_}
 use lib.ListN.{length, getD}
 use Rattle.format.specs.Seq.{numbersFrom, total}
+use Rattle.format.specs.Page.{offset}
 use Rattle.format.specs.Image.{depth, pageCount, pageLevels, prefixesAt}
-
--- the nodes of a page's first l levels: where level l, from 0, starts in the page's row of pairs
-abbrev pub offset : ℕ → List (List ℕ) → ℕ
-offset zero page = 0
-offset (suc l) [] = 0
-offset (suc l) (ns ∷ page) = length ns + offset l page
 
 -- how many nodes of level l of band b stand before those of page i
 unfoldable pub before : List ℕ → ℕ → ℕ → ℕ → ℕ

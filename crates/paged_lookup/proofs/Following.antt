@@ -10,8 +10,7 @@ use lib.ListN.{length, getD, take, drop, drop-of-length-le}
 use lib.Seq.{drop-cons}
 use Rattle.format.specs.Key.{keyBit}
 use Rattle.format.specs.Trie.{bit, childAt, onBits}
-use Rattle.format.specs.Page.{levelsIn}
-use Rattle.format.specs.Place.{offset}
+use Rattle.format.specs.Page.{levelsIn, offset}
 use Rattle.format.specs.Question.{isZero, nodeQuestions}
 use Rattle.format.proofs.Trie.{Shape}
 use Rattle.format.proofs.Questions.{yes-of-none}
