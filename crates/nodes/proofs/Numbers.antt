@@ -61,7 +61,7 @@ val-last w zero (d ∷ ds) l h =
 val-last w (suc k) (d ∷ ds) l h = val-last (w * 4 + d) k ds (omega arith) (h .1)
 
 -- its set bits are the nodes' on bits
-ones-bits : (d : ℕ) → d ≤ 3 → ones d ≡ bits d
+pub ones-bits : (d : ℕ) → d ≤ 3 → ones d ≡ bits d
 unfolding ones onesIn bits
 ones-bits zero h = refl
 ones-bits (suc zero) h = refl

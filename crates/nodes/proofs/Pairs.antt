@@ -1,23 +1,24 @@
 -- The pairs of words that were gathered from a page, and what the counts over the words say of them. Assumes nothing.
 use mathlib.Core.Path.{_≡_, sym, ap, ap₂, subst, _∙_}
 use mathlib.Core.List.{List}
-use Prim.Native.Nat.{ℕ, _+_, _≤_, _<_}
+use Prim.Native.Nat.{ℕ, suc, _+_, _≤_, _<_}
 use native.Mathlib.Nat.{zero-add}
 use native.Mathlib.Omega.{arith}
 use lib.ListN.{length, getD, take, drop, length-map}
 use lib.Seq.{ext-getD}
 use Rattle.format.specs.Seq.{All, every, upTo}
-use Rattle.format.specs.Trie.{onBits}
+use Rattle.format.specs.Trie.{bits, onBits}
 use Rattle.format.specs.Page.{Byte, pairsAt}
 use Rattle.format.specs.Question.{isPositive, isZero}
 use Rattle.format.proofs.Lists.{length-upTo, map-at}
+use Rattle.format.proofs.Descent.{onBits-suc}
 use Rattle.nodes.specs.declared.Words.{Words}
-use Rattle.nodes.specs.Words.{Gathered, nodeIn, noneEmpty, onesBefore, pairsIn, restEmpty, wordsOf}
+use Rattle.nodes.specs.Words.{Gathered, nodeIn, noneEmpty, onesBefore, onesThrough, pairsIn, restEmpty, wordsOf}
 use Rattle.nodes.proofs.Numbers.{Nodes}
 use Rattle.nodes.proofs.Gathered.{length-nodes, nodes-small}
 use Rattle.nodes.proofs.Used.{none-empty-law}
 use Rattle.nodes.proofs.Rest.{rest-empty-words}
-use Rattle.nodes.proofs.Calls.{counted, all-counted, node-read}
+use Rattle.nodes.proofs.Calls.{counted, all-counted, node-read, through-node}
 
 pub length-pairs-in : (word : List ℕ) → length (pairsIn word) ≡ 240
 unfolding pairsIn
@@ -57,6 +58,12 @@ module _ {word before : List ℕ} (g : Gathered word before) where
   -- on_bits_before
   pub counted-in : (n : ℕ) → n ≤ 240 → onesBefore word before n ≡ onBits (take n (pairsIn word))
   counted-in n h = counted (g .bytes) (g .small) (g .at) (g .fits) words from n h ∙ ap (λ (l : List ℕ). onBits (take n l)) (sym same)
+
+  -- on_bits_through
+  pub through-in : (n : ℕ) → n < 240 → onesThrough word before n ≡ onBits (take (suc n) (pairsIn word))
+  unfolding bits
+  through-in n h =
+      omega (arith, through-node word before n, counted-in n (omega arith), onBits-suc (pairsIn word) n (omega (arith, length-pairs-in word)), ap bits (pair-in word n h))
 
   -- on_bits
   pub all-counted-in : getD before 8 0 ≡ onBits (pairsIn word)

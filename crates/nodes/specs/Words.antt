@@ -46,6 +46,10 @@ wordsOf bytes at = record { word = wordsIn bytes at; before = countsBefore 0 (wo
 unfoldable pub onesBefore : List ℕ → List ℕ → ℕ → ℕ
 onesBefore word before n = getD before ((n + 16) / 32) 0 + ones (getD word ((n + 16) / 32) 0 / 2 ^ (64 - 2 * ((n + 16) % 32)))
 
+-- the on bits of the first n nodes and of node n itself
+unfoldable pub onesThrough : List ℕ → List ℕ → ℕ → ℕ
+onesThrough word before n = getD before ((n + 16) / 32) 0 + ones (getD word ((n + 16) / 32) 0 / 2 ^ (62 - 2 * ((n + 16) % 32)))
+
 -- whether the nodes from n on are all 00: after node 208 word 7 tells, else the on bits before n are compared with all
 unfoldable pub restEmpty : List ℕ → List ℕ → ℕ → Bool
 restEmpty word before n =

@@ -5,7 +5,7 @@ ghost use mathlib.Core.List.{[], _∷_};
 ghost use Prim.Native.Nat.{_+_, _*_, _≤_, _<_};
 ghost use lib.ListN.{length, getD};
 ghost use lib.Count.{ones};
-ghost use Rattle.nodes.specs.Words.{halfAt, wordAt, wordsOf, countsBefore, onesBefore, restEmpty, nodeIn, usedNodes, noneEmpty};
+ghost use Rattle.nodes.specs.Words.{halfAt, wordAt, wordsOf, countsBefore, onesBefore, onesThrough, restEmpty, nodeIn, usedNodes, noneEmpty};
 
 // A page's nodes, the first in the highest bits: 16 in the low half of word 0, 32 in each of words 1 to 7; word 8 is 0. `before` has the on bits of
 // the words before each.
@@ -102,6 +102,17 @@ pub fn on_bits_before<'a>(word: &'a [u64; 9], before: &'a [u16; 9], n: usize) ->
     let j = place / 32;
     let passed = before[j];
     wide(passed) + ones_in((word[j] >> 1) >> (63 - 2 * (place % 32)))
+}
+
+// The on bits of the first `n` nodes and of node `n` itself.
+pub fn on_bits_through<'a>(word: &'a [u64; 9], before: &'a [u16; 9], n: usize) -> usize
+    requires { ⌜ n < 240 ⌝ }
+    ensures { λ r. ⌜ (r ≡ onesThrough (now (word .entry)) (now (before .entry)) n) × (r < 65600) ⌝ }
+{
+    let place = n + 16;
+    let j = place / 32;
+    let passed = before[j];
+    wide(passed) + ones_in(word[j] >> (62 - 2 * (place % 32)))
 }
 
 // The on bits of all nodes.
