@@ -6,7 +6,7 @@ use Prim.Native.Nat.{ℕ, _≤_}
 use native.Mathlib.Omega.{arith}
 use lib.Dec.{leb}
 use borrow.Author.Tests.{leb-true, le-leb}
-use lib.ListN.{length, drop}
+use lib.ListN.{length, take, drop}
 use Rattle.format.specs.Seq.{All, every}
 use Rattle.format.specs.Page.{levelsIn, nodeCount}
 use Rattle.format.specs.Question.{Yes, isPositive, isZero, nodeQuestions}
@@ -47,3 +47,11 @@ module _ (r : ℕ) (pairs : List ℕ) where
   -- the levels hang together
   pub nodes-shape : All (λ x. x ≤ 3) pairs → length pairs ≡ 240 → NodesOk r pairs → Shape r (levelsIn 4 r pairs)
   nodes-shape small e h = levels-shape 4 r pairs small (omega (arith, h .within)) (h .positive)
+
+  -- 9 and 10 say as much
+  pub ten-shape : All (λ x. x ≤ 3) pairs → length pairs ≡ 240 → All Yes (take 2 (nodeQuestions r pairs)) → Shape r (levelsIn 4 r pairs)
+  unfolding nodeQuestions
+  ten-shape small e h =
+      let few : Bool = leb (nodeCount r (levelsIn 4 r pairs)) 240 in
+      let valid : Bool = every (every isPositive) (levelsIn 4 r pairs) in
+      levels-shape 4 r pairs small (omega (arith, leb-true (nodeCount r (levelsIn 4 r pairs)) 240 (and-left few valid (h .1 .0)))) (every-all (every isPositive) (levelsIn 4 r pairs) (and-right few valid (h .1 .0)))

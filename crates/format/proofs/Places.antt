@@ -10,7 +10,7 @@ use lib.Seq.{getD-append-add, take-append-add, take-append-le}
 use Rattle.format.specs.Seq.{numbersFrom, total}
 use Rattle.format.specs.Trie.{childAt, onBits}
 use Rattle.format.specs.Page.{levelsIn, nodeCount, offset}
-use Rattle.format.proofs.Trie.{Shape}
+use Rattle.format.proofs.Trie.{Nodes, Shape}
 use Rattle.format.proofs.Subtries.{onBits-append}
 use Rattle.format.proofs.Bytes.{length-levelsIn, levels-join}
 
@@ -73,6 +73,12 @@ level-next r l [] s h = absurd (omega arith)
 level-next r l (ns ∷ []) s h = absurd (omega arith)
 level-next r zero (ns ∷ ms ∷ page) s h = s .2 .0
 level-next r (suc l) (ns ∷ ms ∷ page) s h = level-next (onBits ns) l (ms ∷ page) (s .2) (omega arith)
+
+-- and none of them is 00
+pub level-nodes : (r l : ℕ) (page : List (List ℕ)) → Shape r page → l < length page → Nodes (getD page l [])
+level-nodes r l [] s h = absurd (omega arith)
+level-nodes r zero (ns ∷ page) s h = s .1
+level-nodes r (suc l) (ns ∷ page) s h = level-nodes (onBits ns) l page (s .2) (omega arith)
 
 -- ---- a row of pairs whose four levels hang together
 

@@ -36,6 +36,8 @@ pub mod Exact
 pub mod Insertion
 -- the statement that T and B are counts over the trie's pages
 pub mod Counters
+-- from a node to its child in the order of source document 000, and the statement that it is paper 01's child
+pub mod Child
 -- the statement of how long an image can be
 pub mod Bounds
 -- the statement of what one flipped bit does
