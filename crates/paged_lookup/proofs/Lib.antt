@@ -12,6 +12,8 @@ pub mod Reading
 pub mod EightPages
 -- the code
 pub mod Sides
+pub mod PageLevels
+pub mod Children
 pub mod Following
 pub mod Finding
 pub mod Steps

@@ -118,7 +118,7 @@ module _ {img : List ℕ} (r : Ready img) {head : PageHead} (d : HeadRead img he
         ∙ ap₂ (λ (n : ℕ) (ps : List ℕ). nodeCount n (levelsIn 4 n ps)) (sym (d .roots)) (sym (head-pairs ∙ ap (λ (n : ℕ). pairsAt img (64 * n)) (d .number)))
 
     pub head-judged : {n : ℕ} → n ≡ head .roots + getD (words .before) 8 0 - head .links → {b : OutLink} → JudgedIn (words .word) (words .before) (record { roots = head .roots; nodes = n; b = b })
-    head-judged e = record { gathered = head-gathered; asked = head-asked; nodes-are = head-nodes e }
+    head-judged e = record { page-in = record { gathered = head-gathered; asked = head-asked }; nodes-are = head-nodes e }
 
     pub head-B : head .b .0 ≡ numberAt img (64 * head .number + 2)
     unfolding pageB

@@ -4,8 +4,8 @@ use mathlib.Core.Path.{_≡_}
 use mathlib.Core.Bool.{Bool, true, false}
 use mathlib.Core.Option.{none}
 use mathlib.Core.List.{List}
-use Prim.Native.Nat.{ℕ, _+_, _-_, _*_, _≤_, _<_}
-use Rattle.format.specs.Page.{levelsIn, nodeCount, numberAt}
+use Prim.Native.Nat.{ℕ, suc, _+_, _-_, _*_, _≤_, _<_}
+use Rattle.format.specs.Page.{levelsIn, nodeCount, numberAt, offset}
 use Rattle.format.specs.Image.{pageNumber, pageWith}
 use Rattle.format.specs.Question.{Outcome, firstNo, headerQuestions, nodeQuestions, refused, returns}
 use Rattle.nodes.specs.Words.{Gathered, pairsIn}
@@ -30,11 +30,28 @@ wayOutcome (Out link) = returns (paged.Way.out (link .0))
 wayOutcome (Off figure) = returns (paged.Way.off (figure .0))
 wayOutcome (Refused n) = refused n
 
--- a page's words, which 9 to 11 give a yes, and its numbers of roots and nodes
-pub record JudgedIn (word before : List ℕ) (page : Judged) : Type 0 where
+-- the words of a page of so many roots, which 9 to 11 give a yes
+pub record PageIn (word before : List ℕ) (roots : ℕ) : Type 0 where
   pub gathered : Gathered word before
-  pub asked : firstNo (nodeQuestions (page .roots) (pairsIn word)) ≡ none
-  pub nodes-are : page .nodes ≡ nodeCount (page .roots) (levelsIn 4 (page .roots) (pairsIn word))
+  pub asked : firstNo (nodeQuestions roots (pairsIn word)) ≡ none
+
+-- the four levels of such a page
+abbrev pub fourLevels : List ℕ → ℕ → List (List ℕ)
+fourLevels word roots = levelsIn 4 roots (pairsIn word)
+
+-- such a page, and its number of nodes
+pub record JudgedIn (word before : List ℕ) (page : Judged) : Type 0 where
+  pub page-in : PageIn word before (page .roots)
+  pub nodes-are : page .nodes ≡ nodeCount (page .roots) (fourLevels word (page .roots))
+
+-- a place of such a page on one of its first three levels, whose last node stands before place `end`
+pub record NodeOn (word before : List ℕ) (roots end place : ℕ) : Type 0 where
+  pub page-in : PageIn word before roots
+  pub level : ℕ
+  pub early : level < 3
+  pub from : offset level (fourLevels word roots) ≤ place
+  pub to : place < end
+  pub end-is : end ≡ offset (suc level) (fourLevels word roots)
 
 -- so many pages there are up to and with the last whose T is at or below a root's number
 pub record Upto (img : List ℕ) (first pages root upto : ℕ) : Type 0 where

@@ -1,5 +1,6 @@
 // The eight-page lookup: it asks 1 to 7, then reads one page in each band.
 mod band;
+mod child;
 mod page;
 
 ghost use mathlib.Core.Path.{_≡_};

@@ -10,7 +10,8 @@ ghost use Rattle.format.specs.Question.{isZero, nodeQuestions, returns, settle}
 ghost use Rattle.nodes.specs.Words.{nodeIn, pairsIn};
 ghost use Rattle.pages.specs.Page.{Ready, HeadRead, childIn};
 ghost use Rattle.paged_lookup.specs.Paged;
-ghost use Rattle.paged_lookup.specs.Way.{wayAt, wayOutcome, JudgedIn};
+ghost use Rattle.paged_lookup.specs.Way.{wayAt, wayOutcome, JudgedIn, NodeOn};
+use crate::child::child_place;
 use checker::page::check_nodes;
 use checker::page::fourth_level;
 use checker::page::third_level;
@@ -62,44 +63,64 @@ fn bit_of(node: u64, side: usize) -> u64
     node / 2
 }
 
-// The place of the child that the bit of this side of the node at a place leads to, or would lead to: the roots, and the on bits before that bit. Without a branch on
-// the side, since a key's bits cannot be foreseen.
-fn child_place<'a>(
-    word: &'a [u64; 9],
-    before: &'a [u16; 9],
-    roots: usize,
-    place: usize,
-    side: usize,
-) -> usize
-    requires { ⌜ (place < 240) × (roots ≤ 60) × (side ≤ 1) ⌝ }
-    ensures { λ r. ⌜ (r ≡ childIn (now (word .entry)) (now (before .entry)) roots place side) × (r < 65700) ⌝ }
+// Whether the key's bit is on, and all its bits before were.
+fn is_on(word: &[u64; 9], from: Position, side: usize) -> bool
+    requires { ⌜ (from .on ≡ true → from .place < 240) ⌝ }
+    ensures { λ r. ⌜ r ≡ (from .on && not (isZero (bit side (nodeIn (now (word .entry)) (from .place))))) ⌝ }
 {
-    let first_bit = (node_at(word, place) / 2) as usize;
-    roots + on_bits_before(word, before, place) + side * first_bit
+    if from.on {
+        return bit_of(node_at(word, from.place), side) != 0;
+    }
+    false
 }
 
-// One level down, where the key's bit is `side`. Past an off bit the nodes left of the place lie left, and what lies under them ends where the first child of the place
-// stands.
-fn step<'a>(
+// Where the nodes under the on bits left of a key's way end on the next level, or past the fourth level among the out-links, counted on from the page's nodes: the roots, and
+// the page's on bits before the key's bit, or past an off bit before the place. Without a branch on the side, since a key's bits cannot be foreseen.
+fn left_end<'a>(
     word: &'a [u64; 9],
     before: &'a [u16; 9],
     roots: usize,
     from: Position,
     side: usize,
-) -> Position
+) -> usize
     requires { ⌜ (from .place ≤ 240) × (from .on ≡ true → from .place < 240) × (roots ≤ 60) × (side ≤ 1) ⌝ }
-    ensures { λ r. ⌜ (r .place ≡ childIn (now (word .entry)) (now (before .entry)) roots (from .place) (cond (from .on) side 0)) × (r .place < 65700) × (r .on ≡ (from .on && not (isZero (bit side (nodeIn (now (word .entry)) (from .place)))))) ⌝ }
+    ensures { λ r. ⌜ (r ≡ childIn (now (word .entry)) (now (before .entry)) roots (from .place) (cond (from .on) side 0)) × (r < 65700) ⌝ }
 {
     let place = from.place;
+    let left = roots + on_bits_before(word, before, place);
     if from.on {
-        return Position {
-            place: child_place(word, before, roots, place, side),
-            on: bit_of(node_at(word, place), side) != 0,
-        };
+        let first_bit = (node_at(word, place) / 2) as usize;
+        return left + side * first_bit;
+    }
+    left
+}
+
+// One level down, where the key's bit is `side` and the level's last node stands before place `end`. On the page's first three levels, where `inner` is true, an on bit leads
+// to its child; on the fourth it leads out of the page, to the out-link that paper 01 counts. Past an off bit the place is where the nodes or out-links that lie left end.
+fn step<'a>(
+    word: &'a [u64; 9],
+    before: &'a [u16; 9],
+    roots: usize,
+    end: usize,
+    from: Position,
+    side: usize,
+    inner: bool,
+) -> Position
+    requires { ⌜ (from .place ≤ 240) × (from .on ≡ true → from .place < 240) × (inner ≡ true → from .on ≡ true → NodeOn (now word) (now before) roots end (from .place)) × (roots ≤ 60) × (side ≤ 1) ⌝ }
+    ensures { λ r. ⌜ (r .place ≡ childIn (now (word .entry)) (now (before .entry)) roots (from .place) (cond (from .on) side 0)) × (r .place < 65700) × (r .on ≡ (from .on && not (isZero (bit side (nodeIn (now (word .entry)) (from .place)))))) ⌝ }
+{
+    let on = is_on(word, from, side);
+    if on {
+        if inner {
+            return Position {
+                place: child_place(word, before, roots, end, from.place, side),
+                on,
+            };
+        }
     }
     Position {
-        place: roots + on_bits_before(word, before, place),
-        on: false,
+        place: left_end(word, before, roots, from, side),
+        on,
     }
 }
 
@@ -118,12 +139,16 @@ fn follow<'a>(
     ensures { λ r. ⌜ wayOutcome r ≡ returns (Paged.renumbered (page .b .0 +_) (Paged.follow key level (levelsIn 4 (page .roots) (pairsIn (now (word .entry)))) (wayAt on root))) ⌝ }
 {
     let mut at = Position { place: root, on };
+    let mut end = page.roots;
     let mut passed = 0;
     while passed < 4 {
         let side = key_bit(key, level + passed);
-        at = step(word, before, page.roots, at, side);
+        at = step(word, before, page.roots, end, at, side, passed < 3);
+        // the on bits up to here lead to the nodes of the next level and of those above it, but for the roots
+        end = page.roots + on_bits_before(word, before, end);
         passed += 1;
     }
+    // the fourth level's on bits are counted on from the page's nodes
     let link = OutLink(page.b.0 + (at.place - page.nodes));
     if at.on {
         return Way::Out(link);

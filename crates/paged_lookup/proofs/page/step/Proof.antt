@@ -1,33 +1,46 @@
--- `paged_lookup::page::step` meets its contract. Assumes nothing.
-use mathlib.Core.Path.{ap, _∙_}
+-- `paged_lookup::page::step` meets its contract: from an on bit the steps end at its child. Assumes nothing.
+use mathlib.Core.Path.{_≡_, _∙_}
+use mathlib.Core.Bool.{true}
+use Prim.Native.Nat.{_≤_}
 use native.Mathlib.Omega.{arith}
 use borrow.Author.Needs.{needs}
 use Rattle.format.specs.Trie.{bit}
-use Rattle.paged_lookup.proofs.Sides.{place-on, place-off, after-on, after-off}
+use Rattle.nodes.specs.Words.{nodeIn}
+use Rattle.paged_lookup.specs.Way.{NodeOn}
+use Rattle.paged_lookup.proofs.Sides.{still-on, place-on}
+use Rattle.paged_lookup.proofs.Children.{steps-counted, steps-within}
 use Rattle.paged_lookup.proofs.page.step.Statement.{statement}
 use Rattle.paged_lookup.proofs.page.step.Tie as tie
 
-child-place-requires : tie.Need-child-place-requires
-child-place-requires c κs = let p = c .before .pre in (p .1 (c .if1 .taken), p .2, p .3)
+-- the key's bit is on, and so were all before it
+all-on : (c : tie.Then2) → (c .before .before .before .args .from .on ≡ true) × (1 ≤ bit (c .before .before .before .args .side) (nodeIn (c .before .before .before .args .word .now) (c .before .before .before .args .from .place)))
+all-on c = let i = c .before .before in let a = i .before .args in still-on (a .from .on) (bit (a .side) (nodeIn (a .word .now) (a .from .place))) (i .is-on .ensures) (c .before .if1 .taken)
 
-node-at-requires : tie.Need-node-at-requires
-node-at-requires c κs = c .before .before .pre .1 (c .before .if1 .taken)
+-- so there is a node, on one of the first three levels
+node : (c : tie.Then2) → let a = c .before .before .before .args in NodeOn (a .word .now) (a .before .now) (a .roots) (a .end) (a .from .place)
+node c = c .before .before .before .pre .2 (c .if2 .taken) (all-on c .0)
 
 returns : tie.Need-returns
 returns c =
-    let d = c .before .before in
-    let a = d .before .before .args in
-    let t = d .before .if1 .taken in (
-      d .child-place .ensures .0 ∙ place-on (a .word .now) (a .before .now) (a .roots) (a .from .place) (a .side) t,
-      d .child-place .ensures .1,
-      after-on (a .word .now) (a .before .now) (a .roots) (a .from .place) (a .side) t (c .bit-of .ensures ∙ ap (bit (a .side)) (c .before .node-at .ensures .0)),
+    let t = c .before in
+    let i = t .before .before in
+    let a = i .before .args in
+    let o = all-on t in
+    let small = i .before .pre .4 in (
+      c .child-place .ensures ∙ steps-counted (node t) (a .side) small (o .1) ∙ place-on (a .word .now) (a .before .now) (a .roots) (a .from .place) (a .side) (o .0),
+      omega (arith, c .child-place .ensures, steps-within (node t) (a .side) small (o .1)),
+      i .is-on .ensures,
     )
 
 returns-2 : tie.Need-returns-2
-returns-2 c =
-    let a = c .before .before .args in
-    let e = place-off (a .word .now) (a .before .now) (a .roots) (a .from .place) (a .side) (c .before .if1 .left) in
-    (omega (arith, c .on-bits-before .ensures .0), omega arith, after-off (a .word .now) (a .before .now) (a .roots) (a .from .place) (a .side) (c .before .if1 .left))
+returns-2 c = (c .left-end .ensures .0, c .left-end .ensures .1, c .before .before .is-on .ensures)
 
 pub step-spec : {M : Type 1} → statement M
-step-spec = tie.close (tie.spec child-place-requires node-at-requires (λ c κs. search needs) returns (λ c κs. search needs) (λ c. search needs) returns-2)
+step-spec =
+    tie.close
+    (tie.spec
+    (λ c κs. c .pre .1)
+    (λ c κs. (node c, c .before .before .before .pre .4))
+    returns
+    (λ c κs. let p = c .before .before .pre in (p .0, p .1, p .3, p .4))
+    returns-2)

@@ -58,7 +58,7 @@ follow-requires c κs =
     let n = m .before .before .before in
     let p = g n .before .before .pre in
     let z = m .before .if1 .left in
-    (record { gathered = gathered (g n); asked = judged-yes (img (g n)) (at (g n)) _ _ (pairs (g n)) (n .check-nodes .ensures) z; nodes-are = n .check-nodes .ensures .counted z .nodes-are }, p .3, p .4, m .number .ensures .1)
+    (record { page-in = record { gathered = gathered (g n); asked = judged-yes (img (g n)) (at (g n)) _ _ (pairs (g n)) (n .check-nodes .ensures) z }; nodes-are = n .check-nodes .ensures .counted z .nodes-are }, p .3, p .4, m .number .ensures .1)
 
 returns-2 : tie.Need-returns-2
 returns-2 c =
