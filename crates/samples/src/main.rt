@@ -2,6 +2,7 @@
 // Each case prints a line, and the last line counts those that were right.
 mod beside;
 mod between;
+mod children;
 mod eight_pages;
 mod eight_refusals;
 mod figures;
@@ -24,6 +25,8 @@ fn by_eight_pages(tally: say::Tally) -> say::Tally {
     t = eight_pages::subtries(t);
     t = eight_pages::dense_pages(t);
     t = eight_pages::far_apart(t);
+    t = children::eight(t);
+    t = children::siblings(t);
     t = eight_pages::headers(t);
     t = eight_refusals::band_pages(t);
     t = eight_refusals::two_heads(t);
