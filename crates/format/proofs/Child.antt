@@ -19,7 +19,7 @@ use Rattle.format.proofs.Trie.{Nodes, Shape}
 use Rattle.format.proofs.Bytes.{length-block, length-levelsIn, length-pairs, pairs-small}
 use Rattle.format.proofs.NodeQuestions.{ten-shape}
 use Rattle.format.proofs.Checked.{cond-no, cond-yes}
-use Rattle.format.proofs.Read.{page-four, page-shape}
+use Rattle.format.proofs.Read.{page-shape}
 use Rattle.format.proofs.Accepted.{facts}
 use Rattle.format.proofs.Descent.{node-at, onBits-suc}
 use Rattle.format.proofs.Places.{level-next, level-nodes, offset-within}

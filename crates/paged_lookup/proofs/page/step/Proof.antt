@@ -3,7 +3,6 @@ use mathlib.Core.Path.{_≡_, _∙_}
 use mathlib.Core.Bool.{true}
 use Prim.Native.Nat.{_≤_}
 use native.Mathlib.Omega.{arith}
-use borrow.Author.Needs.{needs}
 use Rattle.format.specs.Trie.{bit}
 use Rattle.nodes.specs.Words.{nodeIn}
 use Rattle.paged_lookup.specs.Way.{NodeOn}
