@@ -3,13 +3,13 @@
 use mathlib.Core.Path.{_≡_, refl, sym, ap, _∙_}
 use mathlib.Core.Logic.{⊎-elim}
 use mathlib.Core.Bool.{Bool, false, not, false≢true}
-use mathlib.Core.List.{List, [], _∷_, _++_, map, List·Memᴰ, List·Memᴰ·not-nil, List·Memᴰ·cases-cons, Memᴰ·cast}
+use mathlib.Core.List.{List, [], _∷_, map, List·Memᴰ, List·Memᴰ·not-nil, List·Memᴰ·cases-cons, Memᴰ·cast}
 use Prim.Native.Nat.{ℕ, zero, suc, _≤_}
 use native.Mathlib.Omega.{arith}
 use borrow.Author.Tests.{le-ltb, eq-eqb, ne-eqb}
 use lib.Dec.{eqb, ltb}
-use lib.ListN.{length, take, drop}
-use Rattle.format.specs.Seq.{consIf, rankIn, select}
+use lib.ListN.{length}
+use Rattle.format.specs.Seq.{consIf, insertAt, rankIn, select}
 use Rattle.format.specs.Key.{Admissible, holderOf, keyOf, slotOf, unwoven}
 use Rattle.format.specs.Image.{bands, keysOf, listOf}
 use Rattle.format.specs.Question.{imageQuestions, returns}
@@ -26,26 +26,22 @@ use Rattle.format.proofs.Lookup.{place-absent, place-member}
 
 -- ---- lists
 
--- l with x put in after its first n elements
-abbrev put : {A : Type 0} → ℕ → A → List A → List A
-put n x l = take n l ++ x ∷ drop n l
-
 -- a key put in among keys is its admission put in among theirs
-unwoven-put : (n k : ℕ) (keys : List ℕ) → unwoven (put n k keys) ≡ put {A = ℕ × ℕ} n (holderOf k, slotOf k) (unwoven keys)
+unwoven-put : (n k : ℕ) (keys : List ℕ) → unwoven (insertAt n k keys) ≡ insertAt {A = ℕ × ℕ} n (holderOf k, slotOf k) (unwoven keys)
 unfolding unwoven
 unwoven-put zero k keys = refl
 unwoven-put (suc n) k [] = refl
 unwoven-put (suc n) k (x ∷ keys) = ap ((holderOf x, slotOf x) ∷_) (unwoven-put n k keys)
 
 -- putting in a number that fails the test changes no selection
-select-put : (f : ℕ → Bool) (n k : ℕ) (l : List ℕ) → f k ≡ false → select f (put n k l) ≡ select f l
+select-put : (f : ℕ → Bool) (n k : ℕ) (l : List ℕ) → f k ≡ false → select f (insertAt n k l) ≡ select f l
 unfolding select consIf
 select-put f zero k l e = rw e
 select-put f (suc n) k [] e = rw e
 select-put f (suc n) k (x ∷ l) e = ap (consIf (f x) x) (select-put f n k l e)
 
 -- nor how many are smaller than that number
-rank-put : (n k : ℕ) (l : List ℕ) → rankIn (put n k l) k ≡ rankIn l k
+pub rank-put : (n k : ℕ) (l : List ℕ) → rankIn (insertAt n k l) k ≡ rankIn l k
 unfolding rankIn
 rank-put n k l = ap length (select-put (λ y. ltb y k) n k l (le-ltb k k (omega arith)))
 
@@ -60,7 +56,7 @@ others-above k x [] h a = refl
 others-above k x (y ∷ l) h a = rw (ne-eqb y k (λ e. omega (arith, a .0))) (ap (y ∷_) (others-above k y l (omega (arith, a .0)) (a .1)))
 
 -- an ascending list is its others with the member put in at its rank
-put-back : (k : ℕ) (l : List ℕ) → Asc l → List·Memᴰ k l → l ≡ put (rankIn l k) k (select (other k) l)
+put-back : (k : ℕ) (l : List ℕ) → Asc l → List·Memᴰ k l → l ≡ insertAt (rankIn l k) k (select (other k) l)
 unfolding select consIf
 put-back k [] a m = absurd (List·Memᴰ·not-nil m)
 put-back k (x ∷ l) a m =
@@ -113,8 +109,8 @@ module _ (img after : List ℕ) (holder slot smaller : ℕ) (was : AbsentIn img 
       others-listed listed-others
 
   -- so the key was put in at its rank, which is the number that lookup brought
-  keys-put : keysOf after ≡ put (rankIn (keysOf after) key) key (keysOf img)
-  keys-put = put-back key (keysOf after) (facts after accepted .keys .asc) key-there ∙ ap (put (rankIn (keysOf after) key) key) others-same
+  keys-put : keysOf after ≡ insertAt (rankIn (keysOf after) key) key (keysOf img)
+  keys-put = put-back key (keysOf after) (facts after accepted .keys .asc) key-there ∙ ap (insertAt (rankIn (keysOf after) key) key) others-same
 
   rank-is : rankIn (keysOf after) key ≡ smaller
   rank-is =
@@ -128,13 +124,13 @@ module _ (img after : List ℕ) (holder slot smaller : ℕ) (was : AbsentIn img 
       settle-yes (imageQuestions after) (lookupAnswer after key) (facts after accepted .all-yes)
       ∙ ap returns (place-member after key key-there ∙ ap (λ (n : ℕ). listed n (map (pageOf after key) bands)) rank-is)
 
-  list-is : listOf after ≡ put smaller (holder, slot) (listOf img)
+  list-is : listOf after ≡ insertAt smaller (holder, slot) (listOf img)
   unfolding listOf
   list-is =
       let small : Admissible (holder, slot) = all-mem Admissible (holder, slot) (listOf after) (unwoven-small (keysOf after)) (is .there) in
-      ap unwoven (keys-put ∙ ap (λ (n : ℕ). put n key (keysOf img)) rank-is)
+      ap unwoven (keys-put ∙ ap (λ (n : ℕ). insertAt n key (keysOf img)) rank-is)
       ∙ unwoven-put smaller key (keysOf img)
-      ∙ (λ i. put smaller (holderOf-keyOf holder slot (small .0) i, slotOf-keyOf holder slot (small .1) i) (listOf img))
+      ∙ (λ i. insertAt smaller (holderOf-keyOf holder slot (small .0) i, slotOf-keyOf holder slot (small .1) i) (listOf img))
 
 -- ---- the statement
 

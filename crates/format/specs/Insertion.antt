@@ -2,9 +2,9 @@
 -- The proof is proofs/Insertion.antt.
 -- Assumes nothing.
 use mathlib.Core.Path.{_≡_}
-use mathlib.Core.List.{List, _∷_, _++_, map, List·Memᴰ}
+use mathlib.Core.List.{List, map, List·Memᴰ}
 use Prim.Native.Nat.{ℕ}
-use lib.ListN.{take, drop}
+use Rattle.format.specs.Seq.{insertAt}
 use Rattle.format.specs.Key.{keyOf}
 use Rattle.format.specs.Image.{bands, listOf}
 use Rattle.format.specs.Question.{returns}
@@ -27,4 +27,4 @@ pub record Insertion : Type 0 where
       → lookup after holder slot ≡ returns (listed smaller (map (pageOf after (keyOf holder slot)) bands))
   -- in the list so many admissions stand before it, and the others after it
   pub list : (img after : List ℕ) (holder slot smaller : ℕ) → AbsentIn img holder slot smaller → Accepted after → Inserted img after (holder, slot)
-      → listOf after ≡ take smaller (listOf img) ++ (holder, slot) ∷ drop smaller (listOf img)
+      → listOf after ≡ insertAt smaller (holder, slot) (listOf img)

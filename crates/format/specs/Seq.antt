@@ -3,8 +3,8 @@
 use Prim.Native.Nat.{ℕ, zero, suc, _+_, max}
 use mathlib.Core.Bool.{Bool, true, false, _&&_, _||_, cond}
 use lib.Dec.{eqb, ltb}
-use mathlib.Core.List.{List, [], _∷_}
-use lib.ListN.{length}
+use mathlib.Core.List.{List, [], _∷_, _++_}
+use lib.ListN.{length, take, drop}
 
 -- n numbers from i on: i, i + 1, ..
 unfoldable pub numbersFrom : ℕ → ℕ → List ℕ
@@ -57,3 +57,10 @@ rankIn xs x = length (select (λ y. ltb y x) xs)
 unfoldable pub lastBelow : ℕ → (ℕ → Bool) → ℕ
 lastBelow zero f = 0
 lastBelow (suc n) f = cond (f n) n (lastBelow n f)
+
+-- the elements with x put in after the first n of them, and without the one that stands there
+abbrev pub insertAt : {A : Type 0} → ℕ → A → List A → List A
+insertAt n x xs = take n xs ++ x ∷ drop n xs
+
+abbrev pub deleteAt : {A : Type 0} → ℕ → List A → List A
+deleteAt n xs = take n xs ++ drop (suc n) xs
