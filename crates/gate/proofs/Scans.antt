@@ -1,28 +1,23 @@
 -- The scan's answer and records, from lookup's answer and what 36, 29 and 21 to 26 then say.
 -- Assumes nothing.
-use mathlib.Core.Path.{_≡_, refl, sym, ap, _∙_}
-use mathlib.Core.Bool.{Bool, true, false, _||_, cond}
-use mathlib.Core.Option.{none, some}
-use mathlib.Core.List.{List, map}
-use Prim.Native.Nat.{ℕ, _≤_, _<_}
+use mathlib.Core.Path.{_≡_, sym, ap, _∙_}
+use mathlib.Core.Bool.{Bool, true, false, _||_}
+use mathlib.Core.Option.{some}
+use mathlib.Core.List.{List}
+use Prim.Native.Nat.{ℕ, _<_}
 use native.Mathlib.Omega.{arith}
 use lib.Dec.{eqb}
 use borrow.Author.Tests.{eq-eqb, ne-eqb}
-use lib.ListN.{length}
-use Rattle.format.specs.Seq.{All, isIn, rankIn}
-use Rattle.format.specs.Key.{holderOf, keyOf}
-use Rattle.format.specs.Page.{Byte}
-use Rattle.format.specs.Image.{bands, keyCount, keysOf, liftOf}
+use Rattle.format.specs.Seq.{isIn}
+use Rattle.format.specs.Key.{holderOf}
+use Rattle.format.specs.Image.{keyCount, keysOf, liftOf}
 use Rattle.format.specs.Question.{Outcome, firstNo, imageQuestions, isZero, outcome, refused, returns, settle}
-use Rattle.format.specs.Answer.{LookupAnswer, absent, listed, lookup, lookupAnswer, pageOf}
+use Rattle.format.specs.Answer.{LookupAnswer, absent, listed, lookup, lookupAnswer}
 use Rattle.format.specs.Scan.{gateQuestions, holderRecord, liftFits, lockoutQuestions, recordsAfter, recordsAfterScan, scan, scanQuestions}
 use Rattle.format.proofs.Questions.{after-no, after-yes, yes-of-none}
-use Rattle.format.proofs.Jobs.{no-of-refused, yes-of-returns}
+use Rattle.format.proofs.Jobs.{no-of-refused}
 use Rattle.format.proofs.Keys.{holderOf-keyOf}
-use Rattle.format.specs.Exact.{Accepted}
-use Rattle.format.proofs.Accepted.{accepted-of-yes}
-use Rattle.format.proofs.Checked.{checked}
-use Rattle.format.proofs.Histories.{listed-rank}
+use Rattle.format.proofs.LookupAnswers.{image-yes, key, off, on, rank-of}
 use Rattle.header.specs.Refusal.{refusalOf}
 use Rattle.header.proofs.Refusals.{none-refused, passed-first, refused-first, refused-outcome}
 
@@ -35,50 +30,6 @@ module _ (lift : ℕ) (img : List ℕ) (n : ℕ) (e : n ≡ liftOf img) where
   pub fits-own : (n ≡ 0 → ⊥) → eqb n lift ≡ liftFits lift img
   unfolding liftFits isZero
   fits-own h = ap (λ (m : ℕ). eqb m lift) e ∙ sym (ap (_|| eqb (liftOf img) lift) (ne-eqb (liftOf img) 0 (λ z. h (e ∙ z))))
-
--- ---- what lookup's answer says
-
-module _ (img : List ℕ) (holder slot : ℕ) where
-  abbrev key : ℕ
-  key = keyOf holder slot
-
-  abbrev rank-of : ℕ
-  rank-of = rankIn (keysOf img) key
-
-  module _ (answer : LookupAnswer) (e : lookup img holder slot ≡ returns answer) where
-    image-yes : firstNo (imageQuestions img) ≡ none
-    unfolding lookup
-    image-yes = yes-of-returns (imageQuestions img) (lookupAnswer img key) answer e .0
-
-    answer-is : cond (isIn key (keysOf img)) (listed rank-of (map (pageOf img key) bands)) (absent rank-of) ≡ answer
-    unfolding lookup lookupAnswer
-    answer-is = yes-of-returns (imageQuestions img) (lookupAnswer img key) answer e .1
-
-    pub header-long : 64 ≤ length img
-    header-long = checked img image-yes .header .long
-
-    pub image-accepted : All Byte img → Accepted img
-    image-accepted a = accepted-of-yes img a image-yes
-
-  -- absent: not in the list
-  off : (smaller : ℕ) → lookup img holder slot ≡ returns (absent smaller) → isIn key (keysOf img) ≡ false
-  off smaller e = go (isIn key (keysOf img)) (answer-is (absent smaller) e)
-    where
-      go : (t : Bool) → cond t (listed rank-of (map (pageOf img key) bands)) (absent rank-of) ≡ absent smaller → t ≡ false
-      go true d = absurd (let z : _≡_ {A = ℕ} 0 1 = cc in omega arith)
-      go false d = refl
-
-  -- listed: in the list, at its rank
-  module _ (rank : ℕ) (pages : List ℕ) (e : lookup img holder slot ≡ returns (listed rank pages)) where
-    on : (isIn key (keysOf img) ≡ true) × (rank-of ≡ rank)
-    on = go (isIn key (keysOf img)) (answer-is (listed rank pages) e)
-      where
-        go : (t : Bool) → cond t (listed rank-of (map (pageOf img key) bands)) (absent rank-of) ≡ listed rank pages → (t ≡ true) × (rank-of ≡ rank)
-        go true d = (refl, cc)
-        go false d = absurd (let z : _≡_ {A = ℕ} 0 1 = cc in omega arith)
-
-    pub rank-small : All Byte img → rank < keyCount img
-    rank-small a = omega (arith, listed-rank img a (image-yes (listed rank pages) e) key (on .0), on .1)
 
 -- ---- the scan
 
@@ -130,7 +81,7 @@ module _ (lift : ℕ) (img records : List ℕ) (lane holder slot time lockout : 
       → Done (refused refusal) records
   unfolding gateQuestions
   scanned-absent refusal smaller e first =
-      gate-refused (absent smaller) e false (off img holder slot smaller e) refusal first (λ z. let absent-in : false ≡ true = yes-of-none _ (none-refused refusal _ first z) .1 .1 .1 .1 .1 .0 in let w : _≡_ {A = ℕ} 0 1 = cc in omega arith)
+      gate-refused (absent smaller) e false (off img holder slot smaller e .0) refusal first (λ z. let absent-in : false ≡ true = yes-of-none _ (none-refused refusal _ first z) .1 .1 .1 .1 .1 .0 in let w : _≡_ {A = ℕ} 0 1 = cc in omega arith)
 
   -- a listed one
   module _ (rank : ℕ) (pages : List ℕ) (e : lookup img holder slot ≡ returns (listed rank pages)) (refusal : ℕ)

@@ -13,7 +13,8 @@ use Rattle.format.proofs.Histories.{records-fit}
 use Rattle.format.proofs.Questions.{yes-of-none}
 use Rattle.header.proofs.Refusals.{none-refused}
 use Rattle.nodes.proofs.Numbers.{bytes-of}
-use Rattle.gate.proofs.Scans.{header-long, image-accepted, image-refused, rank-small, scanned-absent, scanned-no, scanned-yes}
+use Rattle.format.proofs.LookupAnswers.{header-long, image-accepted, rank-small}
+use Rattle.gate.proofs.Scans.{image-refused, scanned-absent, scanned-no, scanned-yes}
 use Rattle.gate.proofs.scan.Statement.{statement}
 use Rattle.gate.proofs.scan.Tie as tie
 
