@@ -1,7 +1,6 @@
 -- Laws for the two passes over the bands. Each file's head says its subject; a file uses only those above it.
 
--- numbers moved in a list, and a part put back
-pub mod Moves
+-- a part put back
 pub mod Parts
 -- the pages of one band, and the header
 pub mod Band

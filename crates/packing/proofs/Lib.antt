@@ -7,5 +7,3 @@ pub mod Bands
 pub mod Ascending
 pub mod Scan
 pub mod Counting
--- stores in a list
-pub mod Stores

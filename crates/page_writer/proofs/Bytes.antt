@@ -7,7 +7,7 @@ use native.Mathlib.Numerals.{add-one}
 use native.Mathlib.Omega.{arith}
 use lib.ListN.{length, take, drop, set, replicate, length-set, length-replicate}
 use Rattle.format.specs.Page.{twoBytes}
-use Rattle.packing.proofs.Stores.{stored, stored-none, stored-next}
+use Rattle.copying.proofs.Stores.{stored, stored-none, stored-next}
 
 -- two bytes
 pub two-stored : (l : List ℕ) (at x : ℕ) → at + 2 ≤ length l → set (set l at (x / 256)) (at + 1) (x % 256) ≡ take at l ++ (twoBytes x ++ drop (at + 2) l)

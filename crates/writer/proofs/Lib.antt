@@ -1,7 +1,6 @@
 -- Laws for the writer's jobs. Each file's head says its subject; a file uses only those above it.
 
--- the keys copied to the places to work in, and the image of a list of keys
-pub mod Copied
+-- the image of a list of keys
 pub mod Job
 -- the lent list: woven into keys, and woven again
 pub mod Weaving

@@ -3,12 +3,12 @@
 // which are put there again for the second.
 mod list; // list.rt: the lent list of admissions, woven into keys
 
+use copying::load;
 use format::Admission;
 use image_writer::Plan;
 ghost use mathlib.Core.Path.{_≡_};
-ghost use mathlib.Core.List.{_++_};
 ghost use Prim.Native.Nat.{_≤_};
-ghost use lib.ListN.{length, take, drop};
+ghost use lib.ListN.{length, take};
 ghost use Rattle.format.specs.Writer.{liftQuestion, eitherQuestion};
 ghost use Rattle.writer.specs.Outcomes.{WrittenKeys, WrittenList, WrittenFirst};
 ghost use Rattle.writer.specs.List.{yesTo35};
@@ -20,18 +20,6 @@ ghost use Rattle.image_writer.specs.Image.{Planned};
 pub enum Written {
     Length(usize),
     Refused(u8),
-}
-
-// Puts the keys in the first places.
-fn load(places: &mut [u32], keys: &[u32])
-    requires { ⌜ length (now keys) ≤ length (now places) ⌝ }
-    ensures { λ _. ⌜ now (places .exit) ≡ now (keys .entry) ++ drop (length (now (keys .entry))) (now (places .entry)) ⌝ }
-{
-    let mut i = 0;
-    while i < keys.len() {
-        places[i] = keys[i];
-        i += 1;
-    }
 }
 
 // Question 17, and the image of the keys that a plan is for.

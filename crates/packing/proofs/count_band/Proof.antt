@@ -6,7 +6,7 @@ use Prim.Native.Nat.{_-_, _/_}
 use native.Mathlib.Omega.{arith}
 use borrow.Author.Needs.{needs}
 use lib.ListN.{length, set, length-set}
-use Rattle.packing.proofs.Stores.{put-back}
+use Rattle.copying.proofs.Stores.{put-back}
 use Rattle.packing.proofs.Counting.{Counting, count-none, count-start, count-same, count-next, count-done}
 use Rattle.packing.proofs.count_band.Statement.{statement}
 use Rattle.packing.proofs.count_band.Tie as tie

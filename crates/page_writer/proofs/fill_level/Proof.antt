@@ -4,7 +4,7 @@ use mathlib.Core.Path.{_∙_}
 use native.Mathlib.Omega.{arith}
 use borrow.Author.Needs.{needs}
 use lib.ListN.{set, length-set}
-use Rattle.packing.proofs.Stores.{put-back}
+use Rattle.copying.proofs.Stores.{put-back}
 use Rattle.page_writer.proofs.Levels.{end-some, start-small, node-some, other-small, scanned-end}
 use Rattle.page_writer.proofs.Marks.{Marked, marked-start, twice-small, marked-same, other-parent, marked-other}
 use Rattle.page_writer.proofs.fill_level.Statement.{statement}

@@ -1,15 +1,15 @@
--- `image_writer::move_down` meets its contract. The invariant is `Moved`. Assumes nothing.
+-- `copying::move_down` meets its contract. The invariant is `Moved`. Assumes nothing.
 use Prim.Native.Nat.{_-_}
 use borrow.Author.Needs.{needs}
-use Rattle.image_writer.proofs.Moves.{Moved, moved-start, moved-next, moved-end}
-use Rattle.image_writer.proofs.move_down.Statement.{statement}
-use Rattle.image_writer.proofs.move_down.Tie as tie
+use Rattle.copying.proofs.Moves.{Moved, moved-start, moved-next, moved-end}
+use Rattle.copying.proofs.move_down.Statement.{statement}
+use Rattle.copying.proofs.move_down.Tie as tie
 
 abbrev Inv-loop : tie.InvT-loop
-Inv-loop keys₀ to end n i₀ keys i = Moved keys₀ to end n keys i
+Inv-loop places₀ to end n i₀ places i = Moved places₀ to end n places i
 
 abbrev μ-loop : tie.MeasureT-loop
-μ-loop keys₀ to end n i₀ keys i = n - i
+μ-loop places₀ to end n i₀ places i = n - i
 
 loop-holds : tie.Need-loop-holds Inv-loop μ-loop
 loop-holds c = moved-start _ _ _ _ (c .pre .0) (c .pre .1)

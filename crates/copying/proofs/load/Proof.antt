@@ -1,16 +1,16 @@
--- `writer::load` meets its contract. The invariant is `Loaded`. Assumes nothing.
+-- `copying::load` meets its contract. The invariant is `Loaded`. Assumes nothing.
 use Prim.Native.Nat.{_-_}
 use lib.ListN.{length}
 use borrow.Author.Needs.{needs}
-use Rattle.writer.proofs.Copied.{Loaded, loaded-start, loaded-next, loaded-end}
-use Rattle.writer.proofs.load.Statement.{statement}
-use Rattle.writer.proofs.load.Tie as tie
+use Rattle.copying.proofs.Copied.{Loaded, loaded-start, loaded-next, loaded-end}
+use Rattle.copying.proofs.load.Statement.{statement}
+use Rattle.copying.proofs.load.Tie as tie
 
 abbrev Inv-loop : tie.InvT-loop
-Inv-loop places₀ keys i₀ places i = Loaded places₀ keys places i
+Inv-loop places₀ numbers i₀ places i = Loaded places₀ numbers places i
 
 abbrev μ-loop : tie.MeasureT-loop
-μ-loop places₀ keys i₀ places i = length keys - i
+μ-loop places₀ numbers i₀ places i = length numbers - i
 
 loop-holds : tie.Need-loop-holds Inv-loop μ-loop
 loop-holds c = loaded-start _ _ (c .pre)

@@ -7,7 +7,7 @@ use native.Mathlib.Numerals.{add-one}
 use native.Mathlib.Omega.{arith}
 use lib.ListN.{length, getD, take, drop, set, length-append, length-drop, length-set}
 use lib.Seq.{length-take-le, take-suc, drop-at, getD-drop}
-use Rattle.packing.proofs.Stores.{stored, stored-none, stored-next}
+use Rattle.copying.proofs.Stores.{stored, stored-none, stored-next}
 
 pub record Moved (l : List ℕ) (to end n : ℕ) (m : List ℕ) (i : ℕ) : Type 0 where
   pub order : to + n ≤ end
