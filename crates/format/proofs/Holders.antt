@@ -24,12 +24,12 @@ use Rattle.format.proofs.Descent.{at-rank}
 
 module _ (img : List ℕ) (holder : ℕ) where
   -- each is a listed key, and the holder's
-  mem-holder : (key : ℕ) → List·Memᴰ key (keysOfHolder img holder) → List·Memᴰ key (keysOf img) × (holderOf key ≡ holder)
+  pub mem-holder : (key : ℕ) → List·Memᴰ key (keysOfHolder img holder) → List·Memᴰ key (keysOf img) × (holderOf key ≡ holder)
   unfolding keysOfHolder isHolders
   mem-holder key m = let (t, e) = select-mem (isHolders holder) key (keysOf img) m in (t, eqb-true (holderOf key) holder e)
 
   -- the record of one of them is at most the holder's
-  record-le : (records : List ℕ) (key : ℕ) → List·Memᴰ key (keysOf img) → holderOf key ≡ holder → recordOf img records key ≤ holderRecord img records holder
+  pub record-le : (records : List ℕ) (key : ℕ) → List·Memᴰ key (keysOf img) → holderOf key ≡ holder → recordOf img records key ≤ holderRecord img records holder
   unfolding holderRecord largestRecord keysOfHolder isHolders
   record-le records key m e =
       le-largest (recordOf img records key) (map (recordOf img records) (keysOfHolder img holder))
