@@ -37,6 +37,49 @@ fn step(random: Random, gap: u32) -> u64
     below(random, gap) as u64
 }
 
+// Moves the numbers from `place` to `n` up by one place.
+fn move_up(numbers: &mut [u32], place: usize, n: usize)
+    requires { ⌜ (place ≤ n) × (n < length (now numbers)) ⌝ }
+    ensures { λ _. ⌜ length (now (numbers .exit)) ≡ length (now (numbers .entry)) ⌝ }
+{
+    let mut i = n;
+    while place < i {
+        numbers[i] = numbers[i - 1];
+        i -= 1;
+    }
+}
+
+// Puts a number at a place among the first `n`, if there is room: those from there on move up.
+pub fn put_at(numbers: &mut [u32], n: usize, place: usize, x: u32)
+    ensures { λ _. ⌜ length (now (numbers .exit)) ≡ length (now (numbers .entry)) ⌝ }
+{
+    if numbers.len() <= n {
+        return;
+    }
+    if n < place {
+        return;
+    }
+    move_up(numbers, place, n);
+    numbers[place] = x;
+}
+
+// Takes the number at a place out of the first `n`: those after it move down.
+pub fn take_out(numbers: &mut [u32], n: usize, place: usize)
+    ensures { λ _. ⌜ length (now (numbers .exit)) ≡ length (now (numbers .entry)) ⌝ }
+{
+    if numbers.len() < n {
+        return;
+    }
+    if n <= place {
+        return;
+    }
+    let mut next = place + 1;
+    while next < n {
+        numbers[next - 1] = numbers[next];
+        next += 1;
+    }
+}
+
 // Puts a key in its place among the first `n`, if it is not there and there is room. Returns how many there are then.
 fn insert(keys: &mut [u32], n: usize, key: u32) -> usize
     requires { ⌜ n ≤ length (now keys) ⌝ }
@@ -49,21 +92,8 @@ fn insert(keys: &mut [u32], n: usize, key: u32) -> usize
     if keys[place] == key && place < n {
         return n;
     }
-    move_up(keys, place, n);
-    keys[place] = key;
+    put_at(keys, n, place, key);
     n + 1
-}
-
-// Moves the keys from `place` to `n` up by one place.
-fn move_up(keys: &mut [u32], place: usize, n: usize)
-    requires { ⌜ (place ≤ n) × (n < length (now keys)) ⌝ }
-    ensures { λ _. ⌜ length (now (keys .exit)) ≡ length (now (keys .entry)) ⌝ }
-{
-    let mut i = n;
-    while place < i {
-        keys[i] = keys[i - 1];
-        i -= 1;
-    }
 }
 
 // Fills the first places with the keys of holders who each have about `each` half-days of a season of `season` slots, `turns` draws in all. Returns how many.

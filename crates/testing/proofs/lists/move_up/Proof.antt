@@ -7,10 +7,10 @@ use Rattle.testing.proofs.lists.move_up.Statement.{statement}
 use Rattle.testing.proofs.lists.move_up.Tie as tie
 
 abbrev Inv-loop : tie.InvT-loop
-Inv-loop keys₀ place n i₀ keys i = (length keys ≡ length keys₀) × (i ≤ n)
+Inv-loop numbers₀ place n i₀ numbers i = (length numbers ≡ length numbers₀) × (i ≤ n)
 
 abbrev μ-loop : tie.MeasureT-loop
-μ-loop keys₀ place n i₀ keys i = i
+μ-loop numbers₀ place n i₀ numbers i = i
 
 pub move-up-spec : {M : Type 1} → statement M
 move-up-spec =
