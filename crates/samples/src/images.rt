@@ -1,5 +1,4 @@
 // Lists and images that the cases start from, in version 1, and ways to look at buffers.
-use writer::Written;
 
 // The image of the empty list.
 pub fn no_key() -> [u8; 64] {
@@ -219,12 +218,4 @@ pub fn all_numbers(numbers: &[u32], x: u32) -> bool {
         i += 1;
     }
     true
-}
-
-// The writer's number, or 0.
-pub fn refusal_of(written: Written) -> u8 {
-    match written {
-        Written::Length(_) => 0,
-        Written::Refused(n) => n,
-    }
 }

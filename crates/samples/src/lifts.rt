@@ -2,7 +2,6 @@
 use crate::images::all_bytes;
 use crate::images::image_for;
 use crate::images::number;
-use crate::images::refusal_of;
 use crate::images::steps;
 use crate::images::two_keys;
 use crate::images::with_byte;
@@ -14,6 +13,7 @@ use crate::questions::are_not_written;
 use crate::say::Tally;
 use crate::say::case;
 use answers::lift_of;
+use answers::refusal_of;
 use testing::starts_with_bytes;
 
 // The image of key 0 in version 2, with these bytes in place of the lift's, and one that must be zero.

@@ -2,7 +2,9 @@
 // Each case prints a line, and the last line counts those that were right.
 mod beside;
 mod between;
+mod changes;
 mod children;
+mod edits;
 mod eight_pages;
 mod eight_refusals;
 mod figures;
@@ -17,7 +19,9 @@ mod plates;
 mod questions;
 mod refusals;
 mod say;
+mod sold_out;
 mod spread;
+mod still_locked;
 
 // The eight-page lookup.
 fn by_eight_pages(tally: say::Tally) -> say::Tally {
@@ -60,6 +64,18 @@ fn smaller_keys(tally: say::Tally) -> say::Tally {
     figures::wrong_counters(t)
 }
 
+// One sale, one withdrawal.
+fn changed_lists(tally: say::Tally) -> say::Tally {
+    let mut t = edits::ranks(tally);
+    t = edits::smallest(t);
+    t = edits::records(t);
+    t = edits::outputs(t);
+    t = sold_out::most(t);
+    t = sold_out::pages(t);
+    t = sold_out::kinds(t);
+    still_locked::lockouts(t)
+}
+
 fn main() {
     let mut tally = say::none();
     tally = plates::dense(tally);
@@ -97,5 +113,6 @@ fn main() {
     tally = lifts::images(tally);
     tally = lifts::gates(tally);
     tally = lifts::gate_order(tally);
+    tally = changed_lists(tally);
     say::count(tally);
 }
