@@ -1,10 +1,12 @@
 // A test: lists of many shapes from a generator with a fixed seed are written for several lifts, read back by every job, and held against the plain
-// reader of a sorted array, and scans against a plain rule of the gate, with lockouts played to their end; their images are damaged, and one that is
+// reader of a sorted array, and scans against a plain rule of the gate, with lockouts played to their end; rows of sales and withdrawals against the same array; their images are damaged, and one that is
 // still accepted must be the exact image of its list, and the eight-page lookup must do on all of them what its steps say. Prints what was compared,
 // and the differences.
 mod ask;
+mod books;
 mod cards;
 mod damage;
+mod edits;
 mod eight;
 mod history;
 mod leaving;
@@ -29,7 +31,8 @@ fn read(tally: Tally, keys: &[u32], lift: u32, image: &[u8], seed: Random) -> Ta
     let mut t = ask::whole(tally, keys, image);
     t = ask::ask(t, keys, image, seed);
     t = pairs::pairs(t, keys, image, seed);
-    history::history(t, keys, lift, image, seed)
+    t = history::history(t, keys, lift, image, seed);
+    edits::edits(t, keys, lift, seed)
 }
 
 // The same, and its damaged images.

@@ -9,7 +9,7 @@ pub struct Tally {
     pub counts: [u32; PLACES],
 }
 
-const PLACES: usize = 104;
+const PLACES: usize = 108;
 
 pub const LISTS: usize = 41;
 
@@ -39,28 +39,37 @@ pub const TRIED_AGAIN: usize = 51;
 
 pub const OPENED_BETWEEN: usize = 52;
 
-pub const PAIRS: usize = 53;
+// Edits that are done, edits that are refused, and a scan after each that is done.
+pub const SALES: usize = 53;
 
-pub const DAMAGED: usize = 54;
+pub const WITHDRAWALS: usize = 54;
 
-pub const SAME: usize = 55;
+pub const REFUSED_EDITS: usize = 55;
 
-pub const OTHER_LIFT: usize = 56;
+pub const CARDS_AFTER: usize = 56;
 
-pub const OTHER_LIST: usize = 57;
+pub const PAIRS: usize = 57;
 
-pub const EIGHT_DAMAGED: usize = 58;
+pub const DAMAGED: usize = 58;
 
-pub const EIGHT_LISTED: usize = 59;
+pub const SAME: usize = 59;
 
-pub const EIGHT_ABSENT: usize = 60;
+pub const OTHER_LIFT: usize = 60;
+
+pub const OTHER_LIST: usize = 61;
+
+pub const EIGHT_DAMAGED: usize = 62;
+
+pub const EIGHT_LISTED: usize = 63;
+
+pub const EIGHT_ABSENT: usize = 64;
 
 // Of the refused ones, those that had an off bit before.
-pub const EIGHT_PAST_OFF: usize = 61;
+pub const EIGHT_PAST_OFF: usize = 65;
 
-const DIFFERENCES: usize = 62;
+const DIFFERENCES: usize = 66;
 
-pub const EIGHT_REFUSED: usize = 63;
+pub const EIGHT_REFUSED: usize = 67;
 
 pub fn none() -> Tally {
     Tally {
@@ -147,6 +156,10 @@ fn say_lists(tally: Tally) {
         refused between\n\
         refused between with 26, of the same holder\n\
         opened between, by other holders\n\
+        sales\n\
+        withdrawals\n\
+        refused sales and withdrawals\n\
+        cards at the gate after them\n\
         pairs of lists\n\
         damaged images\n\
         accepted, with the same list and lift\n\
