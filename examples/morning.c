@@ -1,5 +1,6 @@
 /*
- * A morning at one lift with two lanes: build an image, check it, list a rectangle of it, and scan cards.
+ * A morning at one lift with two lanes: build an image, check it, list a rectangle of it, scan cards, and sell and withdraw
+ * admissions meanwhile.
  * Built and run by examples/run.
  */
 #include <stdint.h>
@@ -118,5 +119,32 @@ int main(void)
         say_admission("the last of them", lpt_find(image, (size_t)size, found[0] - 1));
         say_admission("the next", lpt_find(image, (size_t)size, found[0]));
     }
+
+    /*
+     * The window sells holder 1008 an admission, and takes back holder 1000's, while the lift runs: each time into a second
+     * image and a second record buffer, with which the gate goes on. No record is lost: holder 1007 opened at 1600, and stays
+     * locked out until 2200.
+     */
+    static uint8_t sold[LPT_MOST_BYTES], left[LPT_MOST_BYTES];
+    static uint32_t sold_records[3 * HOLDERS + 1 + LPT_LANES], left_records[3 * HOLDERS + LPT_LANES];
+    int64_t sold_size = lpt_add(image, (size_t)size, records, places, 1008, MORNING, sold, sizeof sold, sold_records, places + 1);
+    say("bytes after the sale to holder 1008", sold_size);
+    if (sold_size < 0)
+        return 1;
+    say("sold again", lpt_add(sold, (size_t)sold_size, sold_records, places + 1, 1008, MORNING, left, sizeof left, left_records, places));
+    say("holder 1008 at 1700, lane 2", lpt_scan(sold, (size_t)sold_size, sold_records, places + 1, 1008, MORNING, 1700, 600, 2, LIFT));
+    int64_t left_size = lpt_withdraw(sold, (size_t)sold_size, sold_records, places + 1, 1000, MORNING, left, sizeof left, left_records, places);
+    say("bytes after holder 1000's withdrawal", left_size);
+    if (left_size < 0)
+        return 1;
+    say("holder 1000 at 1700", lpt_scan(left, (size_t)left_size, left_records, places, 1000, MORNING, 1700, 600, 1, LIFT));
+    say("holder 1007 at 2199, still locked out", lpt_scan(left, (size_t)left_size, left_records, places, 1007, MORNING, 2199, 600, 1, LIFT));
+    say("holder 1007 at 2200", lpt_scan(left, (size_t)left_size, left_records, places, 1007, MORNING, 2200, 600, 1, LIFT));
+    for (int lane = 1; lane <= LANES; lane++)
+        printf("openings in lane %d: %lu\n", lane, (unsigned long)left_records[n + lane - 1]);
+
+    /* A sale that is taken back gives the same bytes. */
+    size = lpt_withdraw(sold, (size_t)sold_size, sold_records, places + 1, 1008, MORNING, left, sizeof left, left_records, places);
+    printf("the sale taken back: %s\n", size == length && memcmp(left, again, (size_t)length) == 0 ? "the same image" : "another image");
     return 0;
 }

@@ -33,9 +33,9 @@ extern "C" {
 /*
  * The version of this interface: one more whenever a declaration here changes, one is added, or a function answers
  * otherwise than before. Since 5, lpt_scan asks 25 and 26 of the holder, not of the one admission; since 6 there is
- * lpt_lookup8; since 7 both lookups fill out[0] where they return 0.
+ * lpt_lookup8; since 7 both lookups fill out[0] where they return 0; since 8 there are lpt_add and lpt_withdraw.
  */
-#define LPT_API_VERSION 7
+#define LPT_API_VERSION 8
 
 /* An admission: a holder and a half-day slot. */
 typedef struct {
@@ -81,9 +81,12 @@ typedef struct {
 #define LPT_NO_NUMBER 28      /* the number out of a band does not fit the next band's root count, or the key count */
 
 /* Refusals of a list, by lpt_write and lpt_write_keys, after LPT_NO_LIFT. Number 16 is not used. */
-#define LPT_NO_MORE 14        /* more than 4,096 admissions */
+#define LPT_NO_MORE 14        /* more than 4,096 admissions; lpt_add: it would be the 4,097th */
 #define LPT_NO_ORDER 15       /* the keys do not strictly ascend */
-#define LPT_NO_ROOM 17        /* the output buffer is too short for the image */
+#define LPT_NO_ROOM 17        /* the output buffer is too short for the image; lpt_add, lpt_withdraw: or for the records */
+
+/* Refusal of a sale or a withdrawal, by lpt_add and lpt_withdraw, after LPT_NO_RECORDS and before LPT_NO_MORE and LPT_NO_ROOM. */
+#define LPT_NO_CHANGE 30      /* lpt_add: the admission is listed already; lpt_withdraw: it is not */
 
 /* Refusals of a rectangle, by lpt_count and lpt_list. */
 #define LPT_NO_RECTANGLE 18   /* a low end is above its high end */
@@ -92,7 +95,7 @@ typedef struct {
 /* Refusal of a rank, by lpt_find. */
 #define LPT_NO_RANK 20        /* the rank is not below the key count */
 
-/* Refusals of a scan, by lpt_scan. */
+/* Refusals of a scan, by lpt_scan; LPT_NO_RECORDS of a sale or a withdrawal too. */
 #define LPT_NO_GATE 36        /* the image is for another lift than the gate's */
 #define LPT_NO_LANE 29        /* the lane is not 1 to LPT_LANES */
 #define LPT_NO_RECORDS 21     /* the record buffer's length is not key count + LPT_LANES */
@@ -168,6 +171,25 @@ int64_t lpt_find(const uint8_t *img, size_t len, uint32_t rank);
  */
 int64_t lpt_scan(const uint8_t *img, size_t len, uint32_t *rec, size_t rec_len, uint16_t holder, uint16_t slot,
                  uint32_t time, uint32_t lockout, uint32_t lane, uint32_t lift);
+
+/*
+ * Sells an admission: from an image with its record buffer, as lpt_scan takes it, to those of the list with the admission, in
+ * a second image buffer and a second record buffer. The new image is the one that the writer gives, in the image's own
+ * version and for its lift. Each other admission's record moves to its new rank, the new one starts at 0, and the lanes'
+ * counts come along: rec_len + 1 elements of out_rec are filled. Returns the new image's length and fills just that many
+ * first bytes of out; LPT_MOST_BYTES are always enough. img and rec stay as they are: the gate goes on with out and out_rec.
+ * Refuses with 1 to 13, 21, 30, 14, 17, and then neither output changes.
+ */
+int64_t lpt_add(const uint8_t *img, size_t len, const uint32_t *rec, size_t rec_len, uint16_t holder, uint16_t slot,
+                uint8_t *out, size_t out_len, uint32_t *out_rec, size_t out_rec_len);
+
+/*
+ * Withdraws an admission, in the same way: its record goes with it, and rec_len - 1 elements of out_rec are filled. Sold and
+ * then withdrawn gives back the same bytes and records; withdrawn and then sold the same bytes, and the records with that
+ * admission's at 0. Refuses with 1 to 13, 21, 30, 17, and then neither output changes.
+ */
+int64_t lpt_withdraw(const uint8_t *img, size_t len, const uint32_t *rec, size_t rec_len, uint16_t holder, uint16_t slot,
+                     uint8_t *out, size_t out_len, uint32_t *out_rec, size_t out_rec_len);
 
 #ifdef __cplusplus
 }

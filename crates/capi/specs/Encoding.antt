@@ -11,6 +11,8 @@ use Rattle.format.specs.Writer.{write, bufferAfterWrite}
 use Rattle.writer.specs.Outcomes.{pairsIn}
 use Rattle.format.specs.Question.{Outcome, refused, returns}
 use Rattle.format.specs.Answer.{LookupAnswer, absent, listed}
+use Rattle.edit.specs.declared.Change.{Change}
+use Rattle.edit.specs.Edit.{edit, imageAfterEdit, recordsAfterEdit}
 
 -- a job that returns a number
 abbrev pub encoded : Outcome ℕ → ℤ
@@ -46,3 +48,9 @@ rectangleOf h0 h1 s0 s1 = record { holders = record { low = h0; high = h1 }; slo
 pub record WrittenToC (lift : ℕ) (list : List Admission) (buffer : List ℕ) (r : ℤ) (buffer′ : List ℕ) : Type 0 where
   pub returned : r ≡ encoded (write lift (pairsIn list) buffer)
   pub bytes : buffer′ ≡ bufferAfterWrite lift (pairsIn list) buffer
+
+-- an edit: what it returns, and both outputs at exit
+pub record EditedToC (change : Change) (img records : List ℕ) (holder slot : ℕ) (image′ records′ : List ℕ) (r : ℤ) (image″ records″ : List ℕ) : Type 0 where
+  pub returned : r ≡ encoded (edit change img records holder slot image′ records′)
+  pub image : image″ ≡ imageAfterEdit change img records holder slot image′ records′
+  pub recorded : records″ ≡ recordsAfterEdit change img records holder slot image′ records′

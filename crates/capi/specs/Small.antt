@@ -6,7 +6,7 @@ use Rattle.checker.specs.declared.Checked.the-variants.{Accepted, Refused}
 use Rattle.writer.specs.declared.Written.{Written}
 use Rattle.writer.specs.declared.Written.the-variants as written
 
--- an answer of the writer whose length, where it has one, is within format's bound
+-- an answer of the writer, or of an edit, whose length, where it has one, is within format's bound
 abbrev pub WithinBound : Written → Type 0
 WithinBound (written.Length n) = n ≤ 24640
 WithinBound (written.Refused n) = Unit {0}

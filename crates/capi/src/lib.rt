@@ -11,7 +11,8 @@ ghost use Rattle.checker.specs.Outcomes;
 ghost use Rattle.paged_lookup.specs.Outcomes.{lookupOutcome};
 ghost use Rattle.paged_lookup.specs.Paged.{pagedLookup};
 ghost use Rattle.writer.specs.Outcomes.{outcomeOf};
-ghost use Rattle.capi.specs.Encoding.{encoded, encodedAdmission, encodedLookup, lookupBuffer, encodedFind, rectangleOf, WrittenToC};
+ghost use Rattle.capi.specs.Encoding.{encoded, encodedAdmission, encodedLookup, lookupBuffer, encodedFind, rectangleOf, WrittenToC, EditedToC};
+ghost use Rattle.edit.specs.declared.Change.{Change};
 ghost use Rattle.capi.specs.Small.{WithinBound, WithinCount};
 use checker::Checked;
 use format::Admission;
@@ -55,7 +56,7 @@ fn rectangle_of(h0: u16, h1: u16, s0: u16, s1: u16) -> Rectangle
     }
 }
 
-// The writer's answer.
+// The answer of the writer, or of an edit.
 fn written(answered: Written) -> i64
     requires { ⌜ WithinBound answered ⌝ }
     ensures { λ r. ⌜ r ≡ encoded (outcomeOf answered) ⌝ }
@@ -219,4 +220,32 @@ pub extern "C" fn lpt_scan(
         Scanned::Opened(rank) => answer(rank as usize),
         Scanned::Refused(n) => refusal(n),
     }
+}
+
+#[no_mangle]
+pub extern "C" fn lpt_add(
+    img: &[u8],
+    rec: &[u32],
+    holder: u16,
+    slot: u16,
+    out: &mut [u8],
+    out_rec: &mut [u32],
+) -> i64
+    ensures { λ r. ⌜ EditedToC Change.Add (now (img .entry)) (now (rec .entry)) holder slot (now (out .entry)) (now («out_rec» .entry)) r (now (out .exit)) (now («out_rec» .exit)) ⌝ }
+{
+    written(edit::add(img, rec, holder, slot, out, out_rec))
+}
+
+#[no_mangle]
+pub extern "C" fn lpt_withdraw(
+    img: &[u8],
+    rec: &[u32],
+    holder: u16,
+    slot: u16,
+    out: &mut [u8],
+    out_rec: &mut [u32],
+) -> i64
+    ensures { λ r. ⌜ EditedToC Change.Withdraw (now (img .entry)) (now (rec .entry)) holder slot (now (out .entry)) (now («out_rec» .entry)) r (now (out .exit)) (now («out_rec» .exit)) ⌝ }
+{
+    written(edit::withdraw(img, rec, holder, slot, out, out_rec))
 }
