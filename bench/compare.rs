@@ -21,6 +21,8 @@ struct Seen {
     eight: BTreeMap<i64, usize>,
     /// absent admissions of sound images: before the first key, between two, and after the last
     absent: [usize; 3],
+    /// whether it was a sale, and the answer, 0 for one that was done
+    edits: BTreeMap<(bool, i64), usize>,
 }
 
 impl Seen {
@@ -41,6 +43,14 @@ impl Seen {
             let n = self.eight.get(&x).copied().unwrap_or(0);
             assert!(n >= 10, "{n} eight-page lookups that give {x} where the full one refuses");
         }
+        // done, and refused by the records, the list and the outputs; 14 is asked of a sale alone
+        for (sale, answers) in [(true, &[0, -21, -30, -14, -17][..]), (false, &[0, -21, -30, -17][..])] {
+            for x in answers {
+                let n = self.edits.get(&(sale, *x)).copied().unwrap_or(0);
+                assert!(n >= 4, "{n} edits, sale {sale}, that give {x}");
+            }
+        }
+        assert!(!self.edits.contains_key(&(false, -14)), "a withdrawal that gives 14");
         assert!(self.absent.iter().all(|&n| n >= 10), "absent before, between and after the keys: {:?}", self.absent);
     }
 }
@@ -100,6 +110,32 @@ fn compare_scan(g: &Gate, k: Admission, lane: u32, r: &mut Rng, a: &Jobs, b: &Jo
     }
 }
 
+/// A sale and a withdrawal, into outputs that are now and then too short; in a sound image each is then undone.
+fn compare_edits(g: &Gate, k: Admission, r: &mut Rng, a: &Jobs, b: &Jobs, seen: &mut Seen) {
+    for sale in [true, false] {
+        let (f, h, back) = if sale { (a.add, b.add, b.withdraw) } else { (a.withdraw, b.withdraw, b.add) };
+        let rec = records(g.list, k, 1, r);
+        let (bytes, elements) = match r.below(9) { 0 => (r.below(2000) as usize, g.list.len() + 9), 1 => (MOST_BYTES, g.list.len() + 7 - r.below(2) as usize), _ => (MOST_BYTES, g.list.len() + 12) };
+        let (mut oa, mut qa) = (vec![7u8; bytes], vec![5u32; elements]);
+        let (mut ob, mut qb) = (oa.clone(), qa.clone());
+        let (x, y) = (f(g.img, &rec, k.holder, k.slot, &mut oa, &mut qa), h(g.img, &rec, k.holder, k.slot, &mut ob, &mut qb));
+        assert!(x == y && oa == ob && qa == qb, "edit {x} {y}, sale {sale}");
+        *seen.edits.entry((sale, x.min(0))).or_default() += 1;
+        if x < 0 {
+            assert!(oa.iter().all(|&c| c == 7) && qa.iter().all(|&c| c == 5), "a refused edit that fills");
+        } else if g.sound {
+            let m = if sale { rec.len() + 1 } else { rec.len() - 1 };
+            let (mut o, mut q) = (vec![7u8; MOST_BYTES], vec![5u32; rec.len()]);
+            let z = back(&ob[..y as usize], &qb[..m], k.holder, k.slot, &mut o, &mut q);
+            let mut was = rec.clone();
+            if !sale {
+                was[g.list.iter().position(|c| *c == k).unwrap()] = 0;
+            }
+            assert!(o[..z as usize] == *g.img && q == was, "an edit undone");
+        }
+    }
+}
+
 /// One or two bytes of the image changed.
 fn damage(img: &mut [u8], r: &mut Rng) {
     for _ in 0..1 + r.below(2) {
@@ -115,6 +151,7 @@ fn damage(img: &mut [u8], r: &mut Rng) {
 /// Both give the same answers and leave the same buffers; the number of answers compared.
 pub fn compare(ds: &[Data], a: &Jobs, b: &Jobs) -> usize {
     let mut r = Rng(99);
+    let mut of_edits = Rng(77);
     let mut n = 0;
     let mut seen = Seen::default();
     for d in ds {
@@ -166,11 +203,21 @@ pub fn compare(ds: &[Data], a: &Jobs, b: &Jobs) -> usize {
                 let other = if i % 5 == 4 { 65536 * r.below(2) as u32 + r.below(2) as u32 } else { 0 };
                 let gate = Gate { img: &img, list: &list, sound, lift: lift + other };
                 compare_eight(&gate, k, a, b, &mut seen);
+                compare_edits(&gate, k, &mut of_edits, a, b, &mut seen);
                 for lane in lanes() {
                     compare_scan(&gate, k, lane, &mut r, a, b, &mut seen);
                 }
-                n += 7 + lanes().count();
+                n += 9 + lanes().count();
             }
+        }
+    }
+    // the full lists
+    for d in ds {
+        let gate = Gate { img: &d.img, list: &d.list, sound: true, lift: 0 };
+        for i in 0..40 {
+            let (holder, slot) = unweave(if i % 2 == 0 { d.misses[i] } else { d.hits[i] });
+            compare_edits(&gate, Admission { holder, slot }, &mut of_edits, a, b, &mut seen);
+            n += 2;
         }
     }
     seen.assert_all();

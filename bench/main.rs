@@ -11,6 +11,8 @@ mod compare;
 
 type Scan = fn(&[u8], &mut [u32], u16, u16, u32, u32, u32, u32) -> i64;
 
+type Edit = fn(&[u8], &[u32], u16, u16, &mut [u8], &mut [u32]) -> i64;
+
 type Lookup = fn(&[u8], u16, u16, &mut [u32; 9]) -> i64;
 
 /// One implementation of the jobs; an answer -n is question n's no.
@@ -25,6 +27,8 @@ struct Jobs {
     list: fn(&[u8], Rect, &mut [u32]) -> i64,
     find: fn(&[u8], u32) -> i64,
     scan: Scan,
+    add: Edit,
+    withdraw: Edit,
     // compared, not timed
     write_keys: fn(&[u32], u32, &mut [u8]) -> i64,
     key: fn(u16, u16) -> i64,
@@ -65,6 +69,8 @@ fn hand_written() -> Jobs {
         list: |i, r, k| answer(reference::list(i, r, k), |x| x as i64),
         find: |i, r| answer(reference::find_by_rank(i, r), |(h, s)| (h as i64) << 16 | s as i64),
         scan: |i, rec, h, s, t, l, lane, lift| answer(reference::scan(i, rec, h, s, t, l, lane, lift), |x| x as i64),
+        add: |i, rec, h, s, o, q| answer(reference::edit::<true>(i, rec, h, s, o, q), |x| x as i64),
+        withdraw: |i, rec, h, s, o, q| answer(reference::edit::<false>(i, rec, h, s, o, q), |x| x as i64),
         write_keys: |k, lift, o| answer(reference::write(&admissions(k), lift, o), |x| x as i64),
         key: |h, s| weave(h, s) as i64,
         admission_of: |k| { let (h, s) = unweave(k); (h as i64) << 16 | s as i64 },
@@ -85,6 +91,8 @@ extern "C" {
     fn lpt_list(img: *const u8, len: usize, h0: u16, h1: u16, s0: u16, s1: u16, keys: *mut u32, places: usize) -> i64;
     fn lpt_find(img: *const u8, len: usize, rank: u32) -> i64;
     fn lpt_scan(img: *const u8, len: usize, rec: *mut u32, rec_len: usize, holder: u16, slot: u16, time: u32, lockout: u32, lane: u32, lift: u32) -> i64;
+    fn lpt_add(img: *const u8, len: usize, rec: *const u32, rec_len: usize, holder: u16, slot: u16, out: *mut u8, out_len: usize, out_rec: *mut u32, out_rec_len: usize) -> i64;
+    fn lpt_withdraw(img: *const u8, len: usize, rec: *const u32, rec_len: usize, holder: u16, slot: u16, out: *mut u8, out_len: usize, out_rec: *mut u32, out_rec_len: usize) -> i64;
     fn lpt_write_keys(keys: *const u32, n: usize, lift: u32, out: *mut u8, out_len: usize) -> i64;
     fn lpt_key(holder: u16, slot: u16) -> i64;
     fn lpt_admission_of(key: u32) -> i64;
@@ -102,6 +110,8 @@ fn verified() -> Jobs {
         list: |i, q, k| unsafe { lpt_list(i.as_ptr(), i.len(), q.h0, q.h1, q.s0, q.s1, k.as_mut_ptr(), k.len()) },
         find: |i, r| unsafe { lpt_find(i.as_ptr(), i.len(), r) },
         scan: |i, rec, h, s, t, l, lane, lift| unsafe { lpt_scan(i.as_ptr(), i.len(), rec.as_mut_ptr(), rec.len(), h, s, t, l, lane, lift) },
+        add: |i, rec, h, s, o, q| unsafe { lpt_add(i.as_ptr(), i.len(), rec.as_ptr(), rec.len(), h, s, o.as_mut_ptr(), o.len(), q.as_mut_ptr(), q.len()) },
+        withdraw: |i, rec, h, s, o, q| unsafe { lpt_withdraw(i.as_ptr(), i.len(), rec.as_ptr(), rec.len(), h, s, o.as_mut_ptr(), o.len(), q.as_mut_ptr(), q.len()) },
         write_keys: |k, lift, o| unsafe { lpt_write_keys(k.as_ptr(), k.len(), lift, o.as_mut_ptr(), o.len()) },
         key: |h, s| unsafe { lpt_key(h, s) },
         admission_of: |k| unsafe { lpt_admission_of(k) },
@@ -286,6 +296,16 @@ fn rows(d: &'static Data, both: &[Jobs]) -> Vec<Row> {
     add("scan, locked out", &|j| { let (f, mut rec) = (j.scan, [vec![1001u32; N], vec![0; LANES]].concat());
         assert_eq!(scans(f, d, &mut rec, 1200, 600), [-26; 32]);
         case(j.name, 32, move || scans(f, d, &mut rec, 1200, 600).iter().sum::<i64>() as u64) }, None);
+    // a sale into all admissions but the last, and a withdrawal from all
+    let less = d.list[..N - 1].to_vec();
+    for (op, list, qs, sale) in [("add", less, &d.misses, true), ("withdraw", d.list.clone(), &d.hits, false)] {
+        let mut img = vec![0u8; MOST_BYTES];
+        let size = (both[0].write)(&list, LIFT, &mut img) as usize;
+        img.truncate(size);
+        let rec = vec![5u32; list.len() + LANES];
+        add(op, &|j| { let (f, img, rec, mut o, mut q) = (if sale { j.add } else { j.withdraw }, img.clone(), rec.clone(), vec![0u8; MOST_BYTES], vec![0u32; N + LANES]);
+            case(j.name, 4, move || qs[..4].iter().map(|&k| { let (h, s) = unweave(k); let x = f(bb(&img), bb(&rec), h, s, &mut o, &mut q); assert!(x > 0); x as u64 }).sum()) }, None);
+    }
     rows
 }
 

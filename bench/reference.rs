@@ -1006,10 +1006,17 @@ pub fn write(list: &[Admission], lift: u32, out: &mut [u8]) -> Result<usize, No>
     if list.len() > MAX_KEYS {
         return Err(No(14));
     }
+    write_keys(list.iter().map(|a| weave(a.holder, a.slot)), lift, out)
+}
+
+/// Questions 15 and 17 and the image of at most 4,096 keys, for a lift, or for 0 in version 1.
+#[inline]
+fn write_keys(keys: impl ExactSizeIterator<Item = u32> + Clone, lift: u32, out: &mut [u8]) -> Result<usize, No> {
     let mut pages = [0u32; BANDS];
     let mut roots = [0u32; BANDS];
     // First pass: page and root counts, question 15 on the way.
-    if let Some(first) = list.first() {
+    let mut pass = keys.clone();
+    if let Some(mut prev) = pass.next() {
         let mut page = [CAP; BANDS]; // nodes of the open page; "full" before the first one
         let mut sub = [4u32; BANDS];
         roots = [1; BANDS];
@@ -1021,9 +1028,7 @@ pub fn write(list: &[Admission], lift: u32, out: &mut [u8]) -> Result<usize, No>
                 page[b] = s;
             }
         };
-        let mut prev = weave(first.holder, first.slot);
-        for a in &list[1..] {
-            let key = weave(a.holder, a.slot);
+        for key in pass {
             if key <= prev {
                 return Err(No(15));
             }
@@ -1048,28 +1053,27 @@ pub fn write(list: &[Admission], lift: u32, out: &mut [u8]) -> Result<usize, No>
     // Header.
     let hd = &mut out[..PAGE];
     hd.fill(0);
-    hd[..5].copy_from_slice(&[0x4c, 0x50, 0x54, 0, 2]);
+    hd[..5].copy_from_slice(&[0x4c, 0x50, 0x54, 0, 1 + (lift > 0) as u8]);
     hd[40..42].copy_from_slice(&(lift as u16).to_be_bytes());
-    hd[6..8].copy_from_slice(&(list.len() as u16).to_be_bytes());
+    hd[6..8].copy_from_slice(&(keys.len() as u16).to_be_bytes());
     for b in 0..BANDS {
         hd[8 + 4 * b..][..2].copy_from_slice(&(pages[b] as u16).to_be_bytes());
         hd[10 + 4 * b..][..2].copy_from_slice(&(roots[b] as u16).to_be_bytes());
     }
-    let Some(first) = list.first() else { return Ok(len) };
+    let mut pass = keys;
+    let Some(mut prev) = pass.next() else { return Ok(len) };
     // Second pass: the pages.
     const O: Open =
         Open { set: 0, nodes: 0, lev: [Bits { w: [0; 9], n: 0 }; 4], t: 0, b: 0, roots: 0, outs: 0, no: 0 };
     let mut open = [O; BANDS];
     let mut no = 1;
-    let mut prev = weave(first.holder, first.slot);
     let place = |key: u32, b: usize| 0x8000u32 >> (key >> (28 - 4 * b) & 15);
     for b in 0..BANDS {
         open[b].no = no;
         no += pages[b];
         open[b].set = place(prev, b);
     }
-    for a in &list[1..] {
-        let key = weave(a.holder, a.slot);
+    for key in pass {
         let c = ((key ^ prev).leading_zeros() / 4) as usize;
         prev = key;
         open[c].set |= place(key, c);
@@ -1081,6 +1085,45 @@ pub fn write(list: &[Admission], lift: u32, out: &mut [u8]) -> Result<usize, No>
     for o in open.iter_mut() {
         close(o, out);
         flush(o, out);
+    }
+    Ok(len)
+}
+
+// ---------------------------------------------------------------------------------------- edit
+
+/// One admission added or withdrawn: the keys are listed and changed, and their image is written.
+pub fn edit<const ADD: bool>(img: &[u8], rec: &[u32], holder: u16, slot: u16, out: &mut [u8], out_rec: &mut [u32]) -> Result<usize, No> {
+    let h = accepted(img)?;
+    let n = h.keys as usize;
+    if rec.len() != n + LANES {
+        return Err(No(21));
+    }
+    let mut keys = [0u32; MAX_KEYS];
+    list_in(img, &h, &Rect { h0: 0, h1: u16::MAX, s0: 0, s1: u16::MAX }, &mut keys);
+    let key = weave(holder, slot);
+    let (rank, m) = match (keys[..n].binary_search(&key), ADD) {
+        (Ok(_), true) | (Err(_), false) => return Err(No(30)),
+        (Err(_), true) if n == MAX_KEYS => return Err(No(14)),
+        (Err(i), true) => {
+            keys.copy_within(i..n, i + 1);
+            keys[i] = key;
+            (i, n + 1)
+        }
+        (Ok(i), false) => {
+            keys.copy_within(i + 1..n, i);
+            (i, n - 1)
+        }
+    };
+    if out_rec.len() < m + LANES {
+        return Err(No(17));
+    }
+    let len = write_keys(keys[..m].iter().copied(), h.lift, out)?;
+    out_rec[..rank].copy_from_slice(&rec[..rank]);
+    if ADD {
+        out_rec[rank] = 0;
+        out_rec[rank + 1..m + LANES].copy_from_slice(&rec[rank..]);
+    } else {
+        out_rec[rank..m + LANES].copy_from_slice(&rec[rank + 1..]);
     }
     Ok(len)
 }
