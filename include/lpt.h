@@ -16,9 +16,9 @@
  * Every function that takes an image checks all of it first, so that there is no need to call lpt_check before;
  * lpt_lookup8 alone checks the header and the eight pages that it reads, and no more.
  *
- * Stack, measured on 4,096 random admissions on x86-64: lpt_write 17,088 bytes, lpt_write_keys 16,928, lpt_list
- * 2,872, lpt_count 2,840, lpt_scan 2,192, lpt_find 680, lpt_lookup 672, lpt_lookup8 624, lpt_key 544, lpt_check and
- * lpt_lift 440, lpt_admission_of 88.
+ * Stack, measured on 4,096 random admissions on x86-64: lpt_add and lpt_withdraw 34,336 bytes (two arrays of 4,096
+ * numbers), lpt_write 17,088, lpt_write_keys 16,976, lpt_list 2,872, lpt_count 2,840, lpt_scan 2,192, lpt_find 680,
+ * lpt_lookup 672, lpt_lookup8 624, lpt_key 544, lpt_check and lpt_lift 440, lpt_admission_of 88.
  */
 #ifndef LPT_H
 #define LPT_H
@@ -83,9 +83,12 @@ typedef struct {
 /* Refusals of a list, by lpt_write and lpt_write_keys, after LPT_NO_LIFT. Number 16 is not used. */
 #define LPT_NO_MORE 14        /* more than 4,096 admissions; lpt_add: it would be the 4,097th */
 #define LPT_NO_ORDER 15       /* the keys do not strictly ascend */
-#define LPT_NO_ROOM 17        /* the output buffer is too short for the image; lpt_add, lpt_withdraw: or for the records */
+#define LPT_NO_ROOM 17        /* an output buffer is too short: for the image, or by lpt_add or lpt_withdraw the records */
 
-/* Refusal of a sale or a withdrawal, by lpt_add and lpt_withdraw, after LPT_NO_RECORDS and before LPT_NO_MORE and LPT_NO_ROOM. */
+/*
+ * Refusal of a sale or a withdrawal, by lpt_add and lpt_withdraw, after LPT_NO_RECORDS and before LPT_NO_MORE and
+ * LPT_NO_ROOM.
+ */
 #define LPT_NO_CHANGE 30      /* lpt_add: the admission is listed already; lpt_withdraw: it is not */
 
 /* Refusals of a rectangle, by lpt_count and lpt_list. */
@@ -173,23 +176,23 @@ int64_t lpt_scan(const uint8_t *img, size_t len, uint32_t *rec, size_t rec_len, 
                  uint32_t time, uint32_t lockout, uint32_t lane, uint32_t lift);
 
 /*
- * Sells an admission: from an image with its record buffer, as lpt_scan takes it, to those of the list with the admission, in
- * a second image buffer and a second record buffer. The new image is the one that the writer gives, in the image's own
- * version and for its lift. Each other admission's record moves to its new rank, the new one starts at 0, and the lanes'
- * counts come along: rec_len + 1 elements of out_rec are filled. Returns the new image's length and fills just that many
- * first bytes of out; LPT_MOST_BYTES are always enough. img and rec stay as they are: the gate goes on with out and out_rec.
- * Refuses with 1 to 13, 21, 30, 14, 17, and then neither output changes.
+ * Sells an admission: from an image with its record buffer, as lpt_scan takes it, to those of the list with the
+ * admission, in a second image buffer and a second record buffer. The new image is the one that the writer gives, in
+ * the image's own version and for its lift. Each other admission's record moves to its new rank, the new one starts at
+ * 0, and the lanes' counts come along: rec_len + 1 elements of out_rec are filled. Returns the new image's length and
+ * fills just that many first bytes of out; LPT_MOST_BYTES are always enough. img and rec stay as they are: the gate
+ * goes on with out and out_rec. Refuses with 1 to 13, 21, 30, 14, 17, and then neither output changes.
  */
 int64_t lpt_add(const uint8_t *img, size_t len, const uint32_t *rec, size_t rec_len, uint16_t holder, uint16_t slot,
                 uint8_t *out, size_t out_len, uint32_t *out_rec, size_t out_rec_len);
 
 /*
- * Withdraws an admission, in the same way: its record goes with it, and rec_len - 1 elements of out_rec are filled. Sold and
- * then withdrawn gives back the same bytes and records; withdrawn and then sold the same bytes, and the records with that
- * admission's at 0. Refuses with 1 to 13, 21, 30, 17, and then neither output changes.
+ * Withdraws an admission, in the same way: its record goes with it, and rec_len - 1 elements of out_rec are filled. Sold
+ * and then withdrawn gives back the same bytes and records; withdrawn and then sold the same bytes, and the records with
+ * that admission's at 0. Refuses with 1 to 13, 21, 30, 17, and then neither output changes.
  */
-int64_t lpt_withdraw(const uint8_t *img, size_t len, const uint32_t *rec, size_t rec_len, uint16_t holder, uint16_t slot,
-                     uint8_t *out, size_t out_len, uint32_t *out_rec, size_t out_rec_len);
+int64_t lpt_withdraw(const uint8_t *img, size_t len, const uint32_t *rec, size_t rec_len, uint16_t holder,
+                     uint16_t slot, uint8_t *out, size_t out_len, uint32_t *out_rec, size_t out_rec_len);
 
 #ifdef __cplusplus
 }
