@@ -56,7 +56,7 @@ to-c lift list buffer t r buffer′ w e = record { returned = e ∙ ap encoded (
 edit-small : (change : Change) (img records : List ℕ) (holder slot : ℕ) (image′ records′ : List ℕ) → All Byte img → Admissible (holder, slot) → (n : ℕ) → edit change img records holder slot image′ records′ ≡ returns n → n ≤ 24640
 unfolding edit
 edit-small change img records holder slot image′ records′ bytes small n e =
-    let d = edit-laws .goes change img records holder slot bytes small image′ records′ n e in
+    let d = edit-laws .returned change img records holder slot bytes small image′ records′ n e in
     let c = edit-laws .changed change img records holder slot _ _ d in
     omega (arith, page-bound .of-image _ (c .accepted) .size, yes-of-returns _ (length (changedImage change img (keyOf holder slot))) n e .1)
 

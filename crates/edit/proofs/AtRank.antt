@@ -82,19 +82,19 @@ module _ (key : ℕ) (keys : List ℕ) (a : Asc keys) where
 
 -- ---- the keys of an accepted image, where 30 gets a yes
 
-pub stranger : (img : List ℕ) (key : ℕ) → canChange Add (isIn key (keysOf img)) ≡ true → List·Memᴰ key (keysOf img) → ⊥
+pub not-listed : (img : List ℕ) (key : ℕ) → canChange Add (isIn key (keysOf img)) ≡ true → List·Memᴰ key (keysOf img) → ⊥
 unfolding canChange
-stranger img key e m = let z : not true ≡ true = sym (ap not (isIn-mem key (keysOf img) m)) ∙ e in let w : _≡_ {A = ℕ} 0 1 = cc in omega arith
+not-listed img key e m = let z : not true ≡ true = sym (ap not (isIn-mem key (keysOf img) m)) ∙ e in let w : _≡_ {A = ℕ} 0 1 = cc in omega arith
 
-pub member : (img : List ℕ) (key : ℕ) → canChange Withdraw (isIn key (keysOf img)) ≡ true → List·Memᴰ key (keysOf img)
+pub is-listed : (img : List ℕ) (key : ℕ) → canChange Withdraw (isIn key (keysOf img)) ≡ true → List·Memᴰ key (keysOf img)
 unfolding canChange
-member img key e = mem-isIn key (keysOf img) e
+is-listed img key e = mem-isIn key (keysOf img) e
 
 -- so many keys there are then
 pub changed-length : (change : Change) (img : List ℕ) → Accepted img → (key : ℕ) → canChange change (isIn key (keysOf img)) ≡ true → length (changedKeys change key (keysOf img)) ≡ changedCount change (keyCount img)
 unfolding changedCount
-changed-length Add img i key can = let f = facts img i .keys in omega (arith, add-length key (keysOf img) (f .asc) (stranger img key can), f .count-is)
-changed-length Withdraw img i key can = let f = facts img i .keys in omega (arith, withdraw-length key (keysOf img) (f .asc) (member img key can), f .count-is)
+changed-length Add img i key can = let f = facts img i .keys in omega (arith, add-length key (keysOf img) (f .asc) (not-listed img key can), f .count-is)
+changed-length Withdraw img i key can = let f = facts img i .keys in omega (arith, withdraw-length key (keysOf img) (f .asc) (is-listed img key can), f .count-is)
 
 -- at most 4,096 keys afterwards
 pub few-keys : (change : Change) (img : List ℕ) → Accepted img → fewEnough change (keyCount img) ≡ true → changedCount change (keyCount img) ≤ 4096

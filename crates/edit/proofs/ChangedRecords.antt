@@ -27,10 +27,10 @@ module _ (img records : List ℕ) (key : ℕ) where
 
 -- ---- numbers told by a function at the ranks of keys, then counts
 
-map-at : (f : ℕ → ℕ) (l : List ℕ) (i : ℕ) → i < length l → getD (map f l) i 0 ≡ f (getD l i 0)
-map-at f [] i h = absurd (omega arith)
-map-at f (x ∷ l) zero h = refl
-map-at f (x ∷ l) (suc i) h = map-at f l i (omega arith)
+mapped-at : (f : ℕ → ℕ) (l : List ℕ) (i : ℕ) → i < length l → getD (map f l) i 0 ≡ f (getD l i 0)
+mapped-at f [] i h = absurd (omega arith)
+mapped-at f (x ∷ l) zero h = refl
+mapped-at f (x ∷ l) (suc i) h = mapped-at f l i (omega arith)
 
 module _ (img′ : List ℕ) (f : ℕ → ℕ) (counts : List ℕ) where
   -- the record of a key
@@ -39,7 +39,7 @@ module _ (img′ : List ℕ) (f : ℕ → ℕ) (counts : List ℕ) where
   record-at asc key m =
       let r = at-rank (keysOf img′) key asc m in
       List·getD-append (map f (keysOf img′)) counts 0 (rankIn (keysOf img′) key) (omega (arith, r .within, length-map (keysOf img′) f))
-      ∙ map-at f (keysOf img′) (rankIn (keysOf img′) key) (r .within)
+      ∙ mapped-at f (keysOf img′) (rankIn (keysOf img′) key) (r .within)
       ∙ ap f (r .here)
 
   module _ (count : length (keysOf img′) ≡ keyCount img′) where
@@ -55,4 +55,4 @@ unfolding recordOf
 own-records img records asc h =
     ext-getD 0 (map (recordOf img records) (keysOf img)) (take (length (keysOf img)) records) (length-map (keysOf img) (recordOf img records) ∙ sym (length-take-le (length (keysOf img)) records h))
     (λ i l. let k : i < length (keysOf img) = omega (arith, length-map (keysOf img) (recordOf img records)) in
-    map-at (recordOf img records) (keysOf img) i k ∙ ap (λ (r : ℕ). getD records r 0) (rank-at (keysOf img) i asc k) ∙ sym (getD-take (length (keysOf img)) records i 0 k))
+    mapped-at (recordOf img records) (keysOf img) i k ∙ ap (λ (r : ℕ). getD records r 0) (rank-at (keysOf img) i asc k) ∙ sym (getD-take (length (keysOf img)) records i 0 k))

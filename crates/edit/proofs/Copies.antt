@@ -45,29 +45,29 @@ all-listed img places after square n e room l =
 -- keys from the second place on, of which the first are moved down, and one put in after them
 module _ (img places ys : List ℕ) (n : ℕ) (room : length (keysOf img) < length places) (l : AllListed img (take (length places - 1) (drop 1 places)) ys n) where
   -- the places with the listed part put back
-  abbrev pub listedFrom1 : List ℕ
-  listedFrom1 = take 1 places ++ (ys ++ drop (length places - 1) (drop 1 places))
+  abbrev pub fromSecond : List ℕ
+  fromSecond = take 1 places ++ (ys ++ drop (length places - 1) (drop 1 places))
 
   pub put-in : (q : List ℕ) (rank key : ℕ) → rank ≤ length (keysOf img)
-      → q ≡ take 0 listedFrom1 ++ (take rank (drop (rank + 1 - rank) listedFrom1) ++ drop (0 + rank) listedFrom1) → KeysIn (insertAt rank key (keysOf img)) (set q rank key) (n + 1)
+      → q ≡ take 0 fromSecond ++ (take rank (drop (rank + 1 - rank) fromSecond) ++ drop (0 + rank) fromSecond) → KeysIn (insertAt rank key (keysOf img)) (set q rank key) (n + 1)
   put-in q rank key h d =
       let keys : List ℕ = keysOf img in
       let rest : List ℕ = drop (length (keysOf img)) (take (length places - 1) (drop 1 places)) ++ drop (length places - 1) (drop 1 places) in
       let one : length (take 1 places) ≡ 1 = length-take-le 1 places (omega arith) in
-      let e : listedFrom1 ≡ take 1 places ++ (keys ++ rest) =
+      let e : fromSecond ≡ take 1 places ++ (keys ++ rest) =
       ap (λ (k : List ℕ). take 1 places ++ (k ++ drop (length places - 1) (drop 1 places))) (l .holds)
       ∙ ap (take 1 places ++_) (append-assoc (keysOf img) (drop (length (keysOf img)) (take (length places - 1) (drop 1 places))) (drop (length places - 1) (drop 1 places))) in
       let o : rank + 1 - rank ≡ 1 = omega arith in
       let z : 0 + rank ≡ rank = omega arith in
       let s : 1 + rank ≡ suc rank = omega arith in
-      let long : rank < length listedFrom1 = omega (arith, ap length e, length-append (take 1 places) (keys ++ rest), length-append keys rest) in
-      let tail : drop 1 listedFrom1 ≡ keys ++ rest = ap (drop 1) e ∙ drop-at (take 1 places) (keys ++ rest) 1 one in
-      let later : drop (suc rank) listedFrom1 ≡ drop rank keys ++ rest = ap (λ (k : ℕ). drop k listedFrom1) (sym s) ∙ sym (drop-drop rank 1 listedFrom1) ∙ ap (drop rank) tail ∙ drop-append-le rank keys rest h in
-      let moved : take rank (drop (rank + 1 - rank) listedFrom1) ≡ take rank keys = ap (λ (k : ℕ). take rank (drop k listedFrom1)) o ∙ ap (take rank) tail ∙ take-append-le rank keys rest h in
-      let kept : drop (0 + rank) listedFrom1 ≡ getD listedFrom1 rank 0 ∷ (drop rank keys ++ rest) = ap (λ (k : ℕ). drop k listedFrom1) z ∙ drop-cons listedFrom1 rank 0 long ∙ ap (getD listedFrom1 rank 0 ∷_) later in
+      let long : rank < length fromSecond = omega (arith, ap length e, length-append (take 1 places) (keys ++ rest), length-append keys rest) in
+      let tail : drop 1 fromSecond ≡ keys ++ rest = ap (drop 1) e ∙ drop-at (take 1 places) (keys ++ rest) 1 one in
+      let later : drop (suc rank) fromSecond ≡ drop rank keys ++ rest = ap (λ (k : ℕ). drop k fromSecond) (sym s) ∙ sym (drop-drop rank 1 fromSecond) ∙ ap (drop rank) tail ∙ drop-append-le rank keys rest h in
+      let moved : take rank (drop (rank + 1 - rank) fromSecond) ≡ take rank keys = ap (λ (k : ℕ). take rank (drop k fromSecond)) o ∙ ap (take rank) tail ∙ take-append-le rank keys rest h in
+      let kept : drop (0 + rank) fromSecond ≡ getD fromSecond rank 0 ∷ (drop rank keys ++ rest) = ap (λ (k : ℕ). drop k fromSecond) z ∙ drop-cons fromSecond rank 0 long ∙ ap (getD fromSecond rank 0 ∷_) later in
       keys-in (insertAt rank key keys) rest (set q rank key) (n + 1)
       (ap (λ (k : List ℕ). set k rank key) (d ∙ ap₂ _++_ moved kept)
-      ∙ set-at (take rank keys) (getD listedFrom1 rank 0) (drop rank keys ++ rest) key rank (length-take-le rank keys h)
+      ∙ set-at (take rank keys) (getD fromSecond rank 0) (drop rank keys ++ rest) key rank (length-take-le rank keys h)
       ∙ sym (append-assoc (take rank keys) (key ∷ drop rank keys) rest))
       (omega (arith, l .count, length-insert rank key keys h))
 
@@ -125,7 +125,7 @@ module _ (records p : List ℕ) (n rank : ℕ) (size : length records ≡ record
         let zero-there : drop rank (set p rank 0) ≡ 0 ∷ drop (suc rank) p = ap (drop rank) (set-split p rank 0 (omega arith)) ∙ drop-at (take rank p) (0 ∷ drop (suc rank) p) rank (length-take-le rank p (omega arith)) in
         e₂ ∙ ap (λ (k : ℕ). first ++ drop k (set p rank 0)) first-length ∙ ap₂ _++_ first-is zero-there ∙ sym (append-assoc (take rank records) (0 ∷ []) (drop (suc rank) p))
 
-    pub with-length : length p₂ ≡ length p
+    with-length : length p₂ ≡ length p
     with-length = omega (arith, ap length start-is, length-append (take rank records ++ 0 ∷ []) (drop (suc rank) p), length-append (take rank records) (0 ∷ []), length-take-le rank records (omega arith), length-drop (suc rank) p)
 
     pub loaded-with : ys ≡ later ++ drop (length later) (take (length p₂ - (rank + 1)) (drop (rank + 1) p₂))

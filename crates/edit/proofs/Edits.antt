@@ -26,7 +26,7 @@ use Rattle.edit.specs.declared.Change.the-variants.{Add, Withdraw}
 use Rattle.edit.specs.Edit.{canChange, changeQuestions, changedCount, changedImage, changedKeys, changedRecords, edit, editQuestions, fewEnough, imageAfterEdit, recordsAfterEdit}
 use Rattle.edit.specs.Laws.{Changed, DoneIn, EditLaws, Edits}
 use Rattle.edit.proofs.ChangedKeys.{add-length, add-undone, added-key, of-withdraw, withdraw-undone}
-use Rattle.edit.proofs.AtRank.{added-at, changed-length, delete-insert, insert-delete, member, records-added, records-withdrawn, stranger}
+use Rattle.edit.proofs.AtRank.{added-at, changed-length, delete-insert, insert-delete, is-listed, records-added, records-withdrawn, not-listed}
 use Rattle.edit.proofs.Outputs.{Editable, changed-is, new-accepted, new-count, new-keys, new-lift, new-size}
 
 -- ---- the job
@@ -133,7 +133,7 @@ module _ (img records : List ℕ) (holder slot : ℕ) where
     sold-records = changedRecords Add img records own-key
 
     out : List·Memᴰ own-key (keysOf img) → ⊥
-    out = stranger img own-key (e .can)
+    out = not-listed img own-key (e .can)
 
     there : List·Memᴰ own-key (keysOf sold)
     there = rw (new-keys Add img records holder slot e) (added-key own-key (keysOf img))
@@ -168,7 +168,7 @@ module _ (img records : List ℕ) (holder slot : ℕ) where
     less-records = changedRecords Withdraw img records own-key
 
     was-there : List·Memᴰ own-key (keysOf img)
-    was-there = member img own-key (e .can)
+    was-there = is-listed img own-key (e .can)
 
     gone : List·Memᴰ own-key (keysOf less) → ⊥
     gone m = of-withdraw own-key (keysOf img) own-key (rw (new-keys Withdraw img records holder slot e) at m) .1 refl
@@ -215,15 +215,15 @@ moved {change} {img} {records} {holder = holder} {slot = slot} p q d = subst (λ
 pub edit-laws : EditLaws
 edit-laws =
     record {
-      goes = λ change img records holder slot bytes small image-out records-out size r. takes change img records holder slot (editable change img records holder slot bytes small image-out records-out size r .0);
+      returned = λ change img records holder slot bytes small image-out records-out size r. takes change img records holder slot (editable change img records holder slot bytes small image-out records-out size r .0);
       changed = λ change img records holder slot img′ records′ d.
           subst (λ (z : List ℕ × List ℕ). Changed change img records holder slot (z .0) (z .1)) (λ i. (image-is change img records holder slot img′ records′ d i, records-is change img records holder slot img′ records′ d i))
           (changed-is change img records holder slot (was-editable change img records holder slot img′ records′ d));
-      sold-back = λ img records holder slot img′ records′ d.
+      added-withdrawn = λ img records holder slot img′ records′ d.
           let e = was-editable Add img records holder slot img′ records′ d in
           subst (λ (z : List ℕ × List ℕ). Edits Withdraw (z .0) (z .1) holder slot img records) (λ i. (image-is Add img records holder slot img′ records′ d i, records-is Add img records holder slot img′ records′ d i))
           (moved (image-back img records holder slot e) (records-back img records holder slot e) (takes Withdraw _ _ holder slot (back-editable img records holder slot e)));
-      sold-again = λ img records holder slot img′ records′ d.
+      withdrawn-added = λ img records holder slot img′ records′ d.
           let e = was-editable Withdraw img records holder slot img′ records′ d in
           subst (λ (z : List ℕ × List ℕ). Edits Add (z .0) (z .1) holder slot img (set records (rankIn (keysOf img) (keyOf holder slot)) 0)) (λ i. (image-is Withdraw img records holder slot img′ records′ d i, records-is Withdraw img records holder slot img′ records′ d i))
           (moved (image-again img records holder slot e) (records-again img records holder slot e) (takes Add _ _ holder slot (again-editable img records holder slot e)));

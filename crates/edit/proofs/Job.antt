@@ -22,7 +22,7 @@ use Rattle.format.proofs.Accepted.{facts}
 use Rattle.format.proofs.Descent.{at-rank}
 use Rattle.format.proofs.Jobs.{list-writable, no-of-refused}
 use Rattle.format.proofs.Keys.{keyOf-small}
-use Rattle.format.proofs.LookupAnswers.{image-accepted, image-yes, off, on}
+use Rattle.format.proofs.LookupAnswers.{image-accepted, image-yes, of-absent, of-listed}
 use Rattle.format.proofs.Members.{ascending-of, rank-le}
 use Rattle.format.proofs.Questions.{after-no, after-yes, asked-yes, yes-of-none}
 use Rattle.header.specs.Refusal.{refusalOf}
@@ -35,7 +35,7 @@ use Rattle.edit.specs.declared.Change.the-variants.{Add, Withdraw}
 use Rattle.edit.specs.Edit.{canChange, changeQuestions, changedCount, changedImage, changedKeys, changedRecords, edit, editQuestions, imageAfterEdit, recordsAfterEdit}
 use Rattle.edit.specs.Outcomes.{Changing, EditedRight, KeyEdited, KeysIn, Located, RecordRoom, recordsAt}
 use Rattle.edit.proofs.ChangedKeys.{asc-changed}
-use Rattle.edit.proofs.AtRank.{added-at, changed-length, few-keys, member, records-added, records-withdrawn, stranger, withdrawn-at}
+use Rattle.edit.proofs.AtRank.{added-at, changed-length, few-keys, is-listed, records-added, records-withdrawn, not-listed, withdrawn-at}
 use Rattle.edit.proofs.Copies.{length-delete, length-insert}
 
 -- ---- the keys and the records at the rank
@@ -45,13 +45,13 @@ pub keys-added : (change : Change) (img : List ℕ) (key rank : ℕ) (places : L
     → KeysIn (changedKeys change key (keysOf img)) places n
 keys-added change img key rank places n is c k =
     let d : Changing Add img key rank = rw is at c in
-    rw (is, added-at key (keysOf img) (facts img (d .accepted) .keys .asc) (stranger img key (d .can)), ← d .rank-is) k
+    rw (is, added-at key (keysOf img) (facts img (d .accepted) .keys .asc) (not-listed img key (d .can)), ← d .rank-is) k
 
 pub keys-withdrawn : (change : Change) (img : List ℕ) (key rank : ℕ) (places : List ℕ) (n : ℕ) → change ≡ Withdraw → Changing change img key rank → KeysIn (deleteAt rank (keysOf img)) places n
     → KeysIn (changedKeys change key (keysOf img)) places n
 keys-withdrawn change img key rank places n is c k =
     let d : Changing Withdraw img key rank = rw is at c in
-    rw (is, withdrawn-at key (keysOf img) (facts img (d .accepted) .keys .asc) (member img key (d .can)), ← d .rank-is) k
+    rw (is, withdrawn-at key (keysOf img) (facts img (d .accepted) .keys .asc) (is-listed img key (d .can)), ← d .rank-is) k
 
 -- the writer's answer for the first places is that for the changed keys
 pub written-changed : (lift : ℕ) (keys places : List ℕ) (n : ℕ) (out : List ℕ) (w : Written) (out′ : List ℕ) (given : ℕ) → given ≡ lift → KeysIn keys places n
@@ -66,11 +66,11 @@ records-are : (change : Change) (img records : List ℕ) → Accepted img → le
     → (changedRecords change img records key ≡ recordsAt change (rankIn (keysOf img) key) records) × (length (changedRecords change img records key) ≡ changedCount change (length records))
 unfolding changedCount
 records-are Add img records i size key can =
-    let e = records-added img records i size key (stranger img key can) in
+    let e = records-added img records i size key (not-listed img key can) in
     (e, ap length e ∙ length-insert (rankIn (keysOf img) key) 0 records (omega (arith, rank-le (keysOf img) key, facts img i .keys .count-is)))
 records-are Withdraw img records i size key can =
     let f = facts img i .keys in
-    let m = member img key can in
+    let m = is-listed img key can in
     let e = records-withdrawn img records i size key m in
     (e, ap length e ∙ omega (arith, length-delete (rankIn (keysOf img) key) records (omega (arith, at-rank (keysOf img) key (f .asc) m .within, f .count-is))))
 
@@ -215,10 +215,10 @@ module _ (img : List ℕ) (holder slot : ℕ) (bytes : All Byte img) (key : ℕ)
 
   pub located-absent : (smaller : ℕ) → lookup img holder slot ≡ returns (absent smaller) → Located img key false smaller
   located-absent smaller e =
-      let o = off img holder slot smaller e in
+      let o = of-absent img holder slot smaller e in
       record { accepted = image-accepted img holder slot (absent smaller) e bytes; small = small; listed-is = rw key-is (sym (o .0)); rank-is = rw key-is (sym (o .1)) }
 
   pub located-listed : (rank : ℕ) (pages : List ℕ) → lookup img holder slot ≡ returns (listed rank pages) → Located img key true rank
   located-listed rank pages e =
-      let o = on img holder slot rank pages e in
+      let o = of-listed img holder slot rank pages e in
       record { accepted = image-accepted img holder slot (listed rank pages) e bytes; small = small; listed-is = rw key-is (sym (o .0)); rank-is = rw key-is (sym (o .1)) }

@@ -24,7 +24,7 @@ use Rattle.edit.specs.Edit.{canChange, carried, changedImage, changedKey
 use Rattle.edit.specs.Laws.{Changed, ListChanged, OneMore}
 use Rattle.edit.proofs.ChangedKeys.{added-key, asc-changed, fits-changed, kept, of-other, of-withdraw}
 use Rattle.edit.proofs.ChangedRecords.{carried-none, carried-own, counts-after, record-at, records-size}
-use Rattle.edit.proofs.AtRank.{changed-length, few-keys, member, stranger}
+use Rattle.edit.proofs.AtRank.{changed-length, few-keys, is-listed, not-listed}
 
 -- ---- what 1 to 13, 21, 30 and 14 say
 
@@ -102,27 +102,27 @@ module _ (change : Change) (img records : List ℕ) (holder slot : ℕ) (e : Edi
   below-old : (k : ℕ) → List·Memᴰ k (keysOfHolder (changedImage change img (keyOf holder slot)) h)
       → recordOf (changedImage change img (keyOf holder slot)) (changedRecords change img records (keyOf holder slot)) k ≤ holderRecord img records h
   below-old k m =
-      let (there, his) = mem-holder (changedImage change img (keyOf holder slot)) h k m in
+      let (there, theirs) = mem-holder (changedImage change img (keyOf holder slot)) h k m in
       let same = new-record change img records holder slot e k there in
-      go (isIn k (keysOf img)) refl his same
+      go (isIn k (keysOf img)) refl theirs same
     where
       go : (t : Bool) → isIn k (keysOf img) ≡ t → holderOf k ≡ h
           → recordOf (changedImage change img (keyOf holder slot)) (changedRecords change img records (keyOf holder slot)) k ≡ carried img records k
           → recordOf (changedImage change img (keyOf holder slot)) (changedRecords change img records (keyOf holder slot)) k ≤ holderRecord img records h
-      go true t his same = let was = mem-isIn k (keysOf img) t in omega (arith, same, carried-own img records k was, record-le img h records k was his)
-      go false t his same = omega (arith, same, carried-none img records k (λ m. let z : _≡_ {A = ℕ} 0 1 = cc (t, isIn-mem k (keysOf img) m) in omega arith))
+      go true t theirs same = let was = mem-isIn k (keysOf img) t in omega (arith, same, carried-own img records k was, record-le img h records k was theirs)
+      go false t theirs same = omega (arith, same, carried-none img records k (λ m. let z : _≡_ {A = ℕ} 0 1 = cc (t, isIn-mem k (keysOf img) m) in omega arith))
 
   -- and each of the holder's keys is there with its record
   above-old : (change ≡ Withdraw → h ≡ holder → ⊥) → (k : ℕ) → List·Memᴰ k (keysOfHolder img h)
       → recordOf img records k ≤ holderRecord (changedImage change img (keyOf holder slot)) (changedRecords change img records (keyOf holder slot)) h
   above-old other k m =
-      let (was, his) = mem-holder img h k m in
-      let there : List·Memᴰ k (keysOf (changedImage change img (keyOf holder slot))) = rw (new-keys change img records holder slot e) (kept (keyOf holder slot) (keysOf img) change k was (λ d. not-own change e other was his d)) in
-      omega (arith, new-record change img records holder slot e k there, carried-own img records k was, record-le (changedImage change img (keyOf holder slot)) h (changedRecords change img records (keyOf holder slot)) k there his)
+      let (was, theirs) = mem-holder img h k m in
+      let there : List·Memᴰ k (keysOf (changedImage change img (keyOf holder slot))) = rw (new-keys change img records holder slot e) (kept (keyOf holder slot) (keysOf img) change k was (λ d. not-own change e other was theirs d)) in
+      omega (arith, new-record change img records holder slot e k there, carried-own img records k was, record-le (changedImage change img (keyOf holder slot)) h (changedRecords change img records (keyOf holder slot)) k there theirs)
     where
       not-own : (c : Change) → Editable c img records holder slot → (c ≡ Withdraw → h ≡ holder → ⊥) → List·Memᴰ k (keysOf img) → holderOf k ≡ h → k ≡ keyOf holder slot → ⊥
-      not-own Add d f was his k-is = stranger img (keyOf holder slot) (d .can) (Memᴰ·cast (sym k-is) was)
-      not-own Withdraw d f was his k-is = f refl (sym his ∙ ap holderOf k-is ∙ holderOf-keyOf holder slot (d .admissible .0))
+      not-own Add d f was theirs k-is = not-listed img (keyOf holder slot) (d .can) (Memᴰ·cast (sym k-is) was)
+      not-own Withdraw d f was theirs k-is = f refl (sym theirs ∙ ap holderOf k-is ∙ holderOf-keyOf holder slot (d .admissible .0))
 
   holder-same : (change ≡ Withdraw → h ≡ holder → ⊥) → holderRecord (changedImage change img (keyOf holder slot)) (changedRecords change img records (keyOf holder slot)) h ≡ holderRecord img records h
   unfolding holderRecord largestRecord
@@ -171,14 +171,14 @@ one-more less more il im holder slot small out in-more up down =
 list-changed : (change : Change) (img records : List ℕ) (holder slot : ℕ) (e : Editable change img records holder slot) → ListChanged change img (changedImage change img (keyOf holder slot)) (holder, slot)
 list-changed Add img records holder slot e =
     let same = new-keys Add img records holder slot e in
-    one-more img _ (e .accepted) (new-accepted Add img records holder slot e) holder slot (e .admissible) (stranger img (keyOf holder slot) (e .can))
+    one-more img _ (e .accepted) (new-accepted Add img records holder slot e) holder slot (e .admissible) (not-listed img (keyOf holder slot) (e .can))
     (rw same (added-key (keyOf holder slot) (keysOf img)))
     (λ k ne m. rw same (kept (keyOf holder slot) (keysOf img) Add k m ne))
     (λ k ne m. of-other (keyOf holder slot) (keysOf img) Add k (rw same at m) ne)
 list-changed Withdraw img records holder slot e =
     let same = new-keys Withdraw img records holder slot e in
     one-more _ img (new-accepted Withdraw img records holder slot e) (e .accepted) holder slot (e .admissible) (λ m. of-withdraw (keyOf holder slot) (keysOf img) (keyOf holder slot) (rw same at m) .1 refl)
-    (member img (keyOf holder slot) (e .can))
+    (is-listed img (keyOf holder slot) (e .can))
     (λ k ne m. of-other (keyOf holder slot) (keysOf img) Withdraw k (rw same at m) ne)
     (λ k ne m. rw same (kept (keyOf holder slot) (keysOf img) Withdraw k m ne))
 
@@ -199,5 +199,5 @@ changed-is change img records holder slot e =
     }
   where
     new-one : (c : Change) → c ≡ Add → (d : Editable c img records holder slot) → recordOf (changedImage c img (keyOf holder slot)) (changedRecords c img records (keyOf holder slot)) (keyOf holder slot) ≡ 0
-    new-one Add a d = new-record Add img records holder slot d (keyOf holder slot) (rw (new-keys Add img records holder slot d) (added-key (keyOf holder slot) (keysOf img))) ∙ carried-none img records (keyOf holder slot) (stranger img (keyOf holder slot) (d .can))
+    new-one Add a d = new-record Add img records holder slot d (keyOf holder slot) (rw (new-keys Add img records holder slot d) (added-key (keyOf holder slot) (keysOf img))) ∙ carried-none img records (keyOf holder slot) (not-listed img (keyOf holder slot) (d .can))
     new-one Withdraw a d = absurd (let w : _≡_ {A = ℕ} 0 1 = cc in omega arith)

@@ -61,15 +61,15 @@ pub record Changed (change : Change) (img records : List ℕ) (holder slot : ℕ
 
 pub record EditLaws : Type 0 where
   -- where the job returns a length, it takes the image and its records to the writer's image of the changed list and the changed records
-  pub goes : (change : Change) (img records : List ℕ) (holder slot : ℕ) → All Byte img → Admissible (holder, slot)
+  pub returned : (change : Change) (img records : List ℕ) (holder slot : ℕ) → All Byte img → Admissible (holder, slot)
       → (image-out records-out : List ℕ) (size : ℕ) → edit change img records holder slot image-out records-out ≡ returns size
       → Edits change img records holder slot (changedImage change img (keyOf holder slot)) (changedRecords change img records (keyOf holder slot))
   -- what it takes them to is changed in the admission alone
   pub changed : (change : Change) (img records : List ℕ) (holder slot : ℕ) (img′ records′ : List ℕ) → Edits change img records holder slot img′ records′
       → Changed change img records holder slot img′ records′
   -- adding and then withdrawing gives back the same image and the same records
-  pub sold-back : (img records : List ℕ) (holder slot : ℕ) (img′ records′ : List ℕ) → Edits Add img records holder slot img′ records′
+  pub added-withdrawn : (img records : List ℕ) (holder slot : ℕ) (img′ records′ : List ℕ) → Edits Add img records holder slot img′ records′
       → Edits Withdraw img′ records′ holder slot img records
   -- withdrawing and then adding gives back the same image, and the records with that admission's at 0
-  pub sold-again : (img records : List ℕ) (holder slot : ℕ) (img′ records′ : List ℕ) → Edits Withdraw img records holder slot img′ records′
+  pub withdrawn-added : (img records : List ℕ) (holder slot : ℕ) (img′ records′ : List ℕ) → Edits Withdraw img records holder slot img′ records′
       → Edits Add img′ records′ holder slot img (set records (rankIn (keysOf img) (keyOf holder slot)) 0)

@@ -43,8 +43,8 @@ module _ (img : List ℕ) (holder slot : ℕ) where
     image-accepted a = accepted-of-yes img a image-yes
 
   -- absent: not in the list, and so many keys are smaller
-  pub off : (smaller : ℕ) → lookup img holder slot ≡ returns (absent smaller) → (isIn key (keysOf img) ≡ false) × (rank-of ≡ smaller)
-  off smaller e = go (isIn key (keysOf img)) (answer-is (absent smaller) e)
+  pub of-absent : (smaller : ℕ) → lookup img holder slot ≡ returns (absent smaller) → (isIn key (keysOf img) ≡ false) × (rank-of ≡ smaller)
+  of-absent smaller e = go (isIn key (keysOf img)) (answer-is (absent smaller) e)
     where
       go : (t : Bool) → cond t (listed rank-of (map (pageOf img key) bands)) (absent rank-of) ≡ absent smaller → (t ≡ false) × (rank-of ≡ smaller)
       go true d = absurd (let z : _≡_ {A = ℕ} 0 1 = cc in omega arith)
@@ -52,12 +52,12 @@ module _ (img : List ℕ) (holder slot : ℕ) where
 
   -- listed: in the list, at its rank
   module _ (rank : ℕ) (pages : List ℕ) (e : lookup img holder slot ≡ returns (listed rank pages)) where
-    pub on : (isIn key (keysOf img) ≡ true) × (rank-of ≡ rank)
-    on = go (isIn key (keysOf img)) (answer-is (listed rank pages) e)
+    pub of-listed : (isIn key (keysOf img) ≡ true) × (rank-of ≡ rank)
+    of-listed = go (isIn key (keysOf img)) (answer-is (listed rank pages) e)
       where
         go : (t : Bool) → cond t (listed rank-of (map (pageOf img key) bands)) (absent rank-of) ≡ listed rank pages → (t ≡ true) × (rank-of ≡ rank)
         go true d = (refl, cc)
         go false d = absurd (let z : _≡_ {A = ℕ} 0 1 = cc in omega arith)
 
     pub rank-small : All Byte img → rank < keyCount img
-    rank-small a = omega (arith, listed-rank img a (image-yes (listed rank pages) e) key (on .0), on .1)
+    rank-small a = omega (arith, listed-rank img a (image-yes (listed rank pages) e) key (of-listed .0), of-listed .1)

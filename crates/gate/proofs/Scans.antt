@@ -17,7 +17,7 @@ use Rattle.format.specs.Scan.{gateQuestions, holderRecord, liftFits, lockoutQue
 use Rattle.format.proofs.Questions.{after-no, after-yes, yes-of-none}
 use Rattle.format.proofs.Jobs.{no-of-refused}
 use Rattle.format.proofs.Keys.{holderOf-keyOf}
-use Rattle.format.proofs.LookupAnswers.{image-yes, key, off, on, rank-of}
+use Rattle.format.proofs.LookupAnswers.{image-yes, key, of-absent, of-listed, rank-of}
 use Rattle.header.specs.Refusal.{refusalOf}
 use Rattle.header.proofs.Refusals.{none-refused, passed-first, refused-first, refused-outcome}
 
@@ -81,20 +81,20 @@ module _ (lift : ℕ) (img records : List ℕ) (lane holder slot time lockout : 
       → Done (refused refusal) records
   unfolding gateQuestions
   scanned-absent refusal smaller e first =
-      gate-refused (absent smaller) e false (off img holder slot smaller e .0) refusal first (λ z. let absent-in : false ≡ true = yes-of-none _ (none-refused refusal _ first z) .1 .1 .1 .1 .1 .0 in let w : _≡_ {A = ℕ} 0 1 = cc in omega arith)
+      gate-refused (absent smaller) e false (of-absent img holder slot smaller e .0) refusal first (λ z. let absent-in : false ≡ true = yes-of-none _ (none-refused refusal _ first z) .1 .1 .1 .1 .1 .0 in let w : _≡_ {A = ℕ} 0 1 = cc in omega arith)
 
   -- a listed one
   module _ (rank : ℕ) (pages : List ℕ) (e : lookup img holder slot ≡ returns (listed rank pages)) (refusal : ℕ)
       (first : refusalOf refusal ≡ firstNo (gateQuestions (liftFits lift img) (keyCount img) records lane true time)) where
     -- 36, 29 and 21 to 24
     pub scanned-no : (refusal ≡ 0 → ⊥) → Done (refused refusal) records
-    scanned-no = gate-refused (listed rank pages) e true (on img holder slot rank pages e .0) refusal first
+    scanned-no = gate-refused (listed rank pages) e true (of-listed img holder slot rank pages e .0) refusal first
 
     -- 25 and 26, of the holder's record; n is the key count that the code holds
     pub scanned-yes : refusal ≡ 0 → (n last : ℕ) → n ≡ keyCount img → holder < 65536 → last ≡ holderRecord img records holder → (o : Outcome ℕ) (after : List ℕ)
         → (o ≡ settle (lockoutQuestions last time lockout) rank) × (after ≡ recordsAfter o n records lane time) → Done o after
     scanned-yes z n last k small l o after d =
-        let own : rank ≡ own-rank = sym (on img holder slot rank pages e .1) in
+        let own : rank ≡ own-rank = sym (of-listed img holder slot rank pages e .1) in
         let whose : last ≡ holderRecord img records (holderOf own-key) = l ∙ ap (holderRecord img records) (sym (holderOf-keyOf holder slot small)) in
-        let all = done o (d .0 ∙ (λ i. settle (lockoutQuestions (whose i) time lockout) (own i)) ∙ sym (gate-passed (listed rank pages) e true (on img holder slot rank pages e .0) refusal first z)) in
+        let all = done o (d .0 ∙ (λ i. settle (lockoutQuestions (whose i) time lockout) (own i)) ∙ sym (gate-passed (listed rank pages) e true (of-listed img holder slot rank pages e .0) refusal first z)) in
         (all .0, d .1 ∙ ap (λ (m : ℕ). recordsAfter o m records lane time) k ∙ all .1)

@@ -6,7 +6,7 @@ use Rattle.format.proofs.Accepted.{facts}
 use Rattle.format.proofs.Descent.{at-rank}
 use Rattle.format.proofs.Members.{rank-le}
 use Rattle.edit.specs.Edit.{changedCount}
-use Rattle.edit.proofs.AtRank.{member}
+use Rattle.edit.proofs.AtRank.{is-listed}
 use Rattle.edit.proofs.Job.{keys-added, keys-withdrawn}
 use Rattle.edit.proofs.keys.changed_keys.Statement.{statement}
 use Rattle.edit.proofs.keys.changed_keys.Tie as tie
@@ -24,7 +24,7 @@ keys-without-requires c κs =
     let s = c .before .before .before .before .before in
     let d = rw (c .before .enum-told2 .given .1) at (s .pre .0) in
     let f = facts _ (d .accepted) in
-    (d .accepted, omega (arith, d .rank-is, at-rank (keysOf (s .args .image .now)) (s .args .key) (f .keys .asc) (member (s .args .image .now) (s .args .key) (d .can)) .within, f .keys .count-is), omega (arith, f .few, s .pre .1))
+    (d .accepted, omega (arith, d .rank-is, at-rank (keysOf (s .args .image .now)) (s .args .key) (f .keys .asc) (is-listed (s .args .image .now) (s .args .key) (d .can)) .within, f .keys .count-is), omega (arith, f .few, s .pre .1))
 
 returns : tie.Need-returns
 returns c = keys-added _ _ _ _ _ _ (c .before .before .before .before .enum-told .given .1) (c .before .before .before .before .before .before .before .before .pre .0) (c .before .before .keys-with .ensures)
