@@ -1,4 +1,6 @@
 // What test programs read from the jobs' answers, and how they compare them.
+#![tactic(auto)]
+
 use checker::Checked;
 use edit::Change;
 use gate::Scanned;

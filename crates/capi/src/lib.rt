@@ -1,4 +1,6 @@
 // The C interface, as include/lpt.h declares it: an answer of 0 or more, or -n where question n got a no.
+#![tactic(auto)]
+
 ghost use Rattle.std.specs.Prelude.{◌≡◌, ◌∷◌, ◌<◌, pos, neg_ℤ};
 ghost use Rattle.format.specs.Key.{key_of, holder_of, slot_of};
 ghost use Rattle.format.specs.Writer;

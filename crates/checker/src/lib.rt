@@ -1,4 +1,6 @@
 // The checker: questions 1 to 13, with 35, of any bytes.
+#![tactic(auto)]
+
 pub mod band;
 pub mod page;
 

@@ -1,4 +1,6 @@
 // From a rank up the bands to the key.
+#![tactic(auto)]
+
 mod select;
 
 ghost use Rattle.std.specs.Prelude.{◌≡◌, ◌+◌, ◌≤◌, ◌<◌, get_or};

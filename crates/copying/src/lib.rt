@@ -1,4 +1,6 @@
 // Numbers and bytes copied into the first of lent places, and numbers moved down among them.
+#![tactic(auto)]
+
 ghost use Rattle.std.specs.Prelude.{◌≡◌, ◌++◌, ◌+◌, ◌-◌, ◌≤◌, length, take, drop};
 
 // Puts the numbers in the first places.

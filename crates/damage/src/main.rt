@@ -1,6 +1,8 @@
 // Reads an image from standard input, turns over each of its bits in turn, and prints how many of these images each question refuses, which have
 // another lift and are accepted with the same list, and which are accepted otherwise, with the list that such an image then has. No image is: a bit
 // of the lift is the only one that can go unnoticed. Input that is refused prints what the listing program prints of it.
+#![tactic(auto)]
+
 use answers::{lift_of, refusal};
 use testing::{one_more, starts_with_bytes};
 

@@ -1,4 +1,6 @@
 // One sale, one withdrawal: from an image and its records to those of the changed list, in a second image buffer and a second record buffer.
+#![tactic(auto)]
+
 mod keys; // keys.rt: the changed list, and its image
 mod records; // records.rt: the changed records
 

@@ -1,4 +1,6 @@
 // The types that the jobs share, the crossing between bands and back, the most bytes of an image and the lanes of a gate, and which numbers are lift numbers. The definitions of the format are in specs/, the laws about them in proofs/.
+#![tactic(auto)]
+
 ghost use Rattle.std.specs.Prelude.{◌≡◌};
 ghost use Rattle.format.specs.Band.{crossed};
 ghost use Rattle.format.specs.Question.{is_lift, one_to};

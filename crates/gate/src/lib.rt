@@ -1,4 +1,6 @@
 // The gate's scan: whether a card opens, and what is recorded.
+#![tactic(auto)]
+
 ghost use Rattle.std.specs.Prelude.{◌≡◌, ◌≤◌, ◌<◌, ltb, length, get_or};
 ghost use Rattle.format.specs.Question.{first_no, settle};
 ghost use Rattle.format.specs.Image.{key_count};

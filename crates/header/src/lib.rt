@@ -1,4 +1,6 @@
 // The header's numbers, which every job reads through these functions, and questions 1 to 7 with 35.
+#![tactic(auto)]
+
 ghost use Rattle.std.specs.Prelude.{◌≡◌, map, ◌+◌, ◌-◌, ◌%◌, ◌≤◌, ◌<◌, length, take, drop};
 ghost use Rattle.format.specs.Seq.{every, numbers_from, total};
 ghost use Rattle.format.specs.Page.{number_at};

@@ -1,5 +1,7 @@
 // A holder's record: the largest among those of the holder's keys. One walk goes down the branches whose bits are the holder's; out of band 8 an out-link's
 // number is the rank of a key.
+#![tactic(auto)]
+
 ghost use Rattle.std.specs.Prelude.{◌≡◌, ◌+◌, ◌≤◌, ◌<◌, max, length};
 ghost use Rattle.format.specs.Exact.{Accepted};
 ghost use Rattle.format.specs.Image.{key_count};

@@ -1,5 +1,7 @@
 // Counts over the nodes of a page. A page's 60 bytes of two-bit nodes are gathered once into words, with the on bits before each word, and every count
 // over the page is then taken from one word.
+#![tactic(auto)]
+
 ghost use Rattle.std.specs.Prelude.{◌≡◌, [], ◌∷◌, ◌+◌, ◌*◌, ◌≤◌, ◌<◌, length, get_or};
 ghost use Rattle.std.specs.Int.Count.{ones};
 ghost use Rattle.nodes.specs.Words.{half_at, word_at, words_of, counts_before, ones_before, ones_through, rest_empty, node_in, used_nodes, none_empty};

@@ -1,6 +1,8 @@
 // Packing: which prefixes go on one page, and how many pages and roots a band has. The scans go over the prefixes that a band's out-links
 // lead to: ascending numbers, whose last four bits are the band's. A page of the band holds the subtries above a run of them, and a
 // subtrie ends where neighbours differ before the last four bits.
+#![tactic(auto)]
+
 ghost use Rattle.std.specs.Prelude.{◌≡◌, ◌<◌, ◌≤◌, length};
 ghost use Rattle.format.specs.Writer.{ascending};
 ghost use Rattle.packing.specs.Run.{differ, more_nodes, joined, Prefixes, PageIs, BandCounted};

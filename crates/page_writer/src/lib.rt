@@ -1,6 +1,8 @@
 // The page writer: the bytes of one page, from the run of prefixes that packing puts on it. The nodes are filled in from the last to the
 // first: the level above a list of ascending prefixes, read from the end, and then the level above their parents, which have taken the
 // prefixes' last places.
+#![tactic(auto)]
+
 ghost use Rattle.std.specs.Prelude.{◌≡◌, ◌++◌, ◌+◌, ◌/◌, ◌≤◌, ◌<◌, length, take, drop, replicate};
 ghost use Rattle.format.specs.Page.{two_bytes};
 ghost use Rattle.page_writer.specs.Page.{bit_in, page_left, byte_left, LevelRoom, LevelDone, LevelsRoom, LevelsDone, PageRoom, PageDone};

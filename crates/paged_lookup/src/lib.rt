@@ -1,4 +1,6 @@
 // The eight-page lookup: it asks 1 to 7, then reads one page in each band.
+#![tactic(auto)]
+
 mod band;
 mod child;
 mod page;

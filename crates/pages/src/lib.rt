@@ -1,4 +1,6 @@
 // Bands and pages of an accepted image, read from its bytes.
+#![tactic(auto)]
+
 ghost use Rattle.std.specs.Prelude.{◌≡◌, ◌+◌, ◌-◌, ◌≤◌, ◌<◌, get_or};
 ghost use Rattle.format.specs.Image.{page_b, page_number, page_count, page_t, root_count, next_t, out_link_count};
 ghost use Rattle.format.specs.Question.{out_links_due};

@@ -1,4 +1,6 @@
 // Lookup, count, listing and finding by rank. Each job asks 1 to 13 by itself first.
+#![tactic(auto)]
+
 ghost use Rattle.std.specs.Prelude.{◌≡◌, ltb, length};
 ghost use Rattle.format.specs.Answer;
 ghost use Rattle.format.specs.Exact.{Accepted};

@@ -2,6 +2,8 @@
 // reader of a sorted array, and scans against a plain rule of the gate, with lockouts played to their end; rows of sales and withdrawals against the same array; their images are damaged, and one that is
 // still accepted must be the exact image of its list, and the eight-page lookup must do on all of them what its steps say. Prints what was compared,
 // and the differences.
+#![tactic(auto)]
+
 mod ask;
 mod books;
 mod cards;

@@ -1,5 +1,7 @@
 // A reader that holds a page and the node reached, and moves forward only. The functions over it are thin: the work is done by
 // `nodes_at` and `ahead`, which take a plain slice and numbers and are covered.
+#![tactic(auto)]
+
 ghost use Rattle.std.specs.Prelude.{◌≡◌, ◌+◌, ◌≤◌, ◌<◌, ◌^◌, min, length};
 ghost use Rattle.reader.specs.Page.{NodesIn};
 

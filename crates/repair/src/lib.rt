@@ -1,4 +1,6 @@
 // Damaged page heads: key count, root counts, T and B worked out afresh from the page counts and the nodes.
+#![tactic(auto)]
+
 mod fill;
 mod judge;
 mod roots;

@@ -1,6 +1,8 @@
 // The repair program: reads an image from standard input and writes it, repaired, to standard output; to standard error, how many numbers it altered, or
 // the number of the refusal. The array has one place more than the 65,536 bytes that are taken, so that longer input shows: 37 refuses it, for no image is
 // so long.
+#![tactic(auto)]
+
 use repair::Repaired;
 
 fn main() {

@@ -1,5 +1,7 @@
 // A test: the sample plates that are not proved as theorems, packings at their edges, and every refusal number, through the public jobs.
 // Each case prints a line, and the last line counts those that were right.
+#![tactic(auto)]
+
 mod beside;
 mod between;
 mod changes;

@@ -1,5 +1,7 @@
 // The subtries of an accepted image, as a walk reads them: those of a band from left to right. Where the reading of each band stands is kept, so that the
 // next subtrie of a page is read from where the last one ended, and a page is looked for only where the walk leaves the one that it is in.
+#![tactic(auto)]
+
 mod level;
 mod skip;
 mod state;

@@ -1,5 +1,7 @@
 // What the test programs share: a generator with a fixed seed, lists of many shapes, and a plain reader of a sorted array.
 // Nothing here uses the format's crates but for its types, so that an answer is held against another way to it.
+#![tactic(auto)]
+
 mod compare;
 mod lists;
 mod random;

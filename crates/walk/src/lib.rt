@@ -1,5 +1,7 @@
 // The walks over the subtries that have members. The walker of a subtrie and the opener of a band call each other until no band is left: `open_band` and
 // `walk_subtrie` where blocks lie across the rectangle, `open_inside` and `walk_inside` below a block that lies inside.
+#![tactic(auto)]
+
 mod block;
 
 ghost use Rattle.std.specs.Prelude.{◌≡◌, true, [], ◌∷◌, ◌+◌, ◌-◌, ◌*◌, ◌≤◌, ◌<◌, ◌^◌, length, set};

@@ -1,6 +1,8 @@
 // The writer: from a list of admissions or keys to its image in a lent buffer. The image is planned first (crate image_writer), so that
 // nothing is written where the buffer is too small, and then filled. Both passes share one array: the first uses up the first keys only,
 // which are put there again for the second.
+#![tactic(auto)]
+
 mod list; // list.rt: the lent list of admissions, woven into keys
 
 ghost use Rattle.std.specs.Prelude.{◌≡◌, ◌≤◌, length, take};

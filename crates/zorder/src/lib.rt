@@ -1,4 +1,6 @@
 // Weaving a holder and a slot into a key by a table of the spread of every byte, and unweaving a key.
+#![tactic(auto)]
+
 ghost use Rattle.std.specs.Prelude.{◌≡◌, ◌<◌};
 ghost use Rattle.format.specs.Key.{spread, gather, key_of, holder_of, slot_of};
 ghost use Rattle.zorder.specs.Table.{IsSpreads};
