@@ -7,35 +7,17 @@ use lib.Count.{ones}
 use lib.ListN.{get_or}
 use lib.Pow.{shr-shr}
 use Rattle.nodes.specs.Words.{ones_before}
-use Rattle.nodes.proofs.on_bits_before.Statement.{statement}
-use Rattle.nodes.proofs.on_bits_before.Tie as tie
+use Rattle.nodes.proofs.on_bits_before.Goals as goal
 
-returns : tie.Need-returns
+pub returns : goal.returns
 unfolding ones_before
 returns c =
-    let a = c.before.before.before.before.args in
+    let a = c.args in
     let j : ℕ = (a.n + 16) / 32 in
     let k : ℕ = (a.n + 16) % 32 in
     let w : ℕ = get_or a.word.now j 0 in
     let e : 1 + (63 - 2 * k) ≡ 64 - 2 * k = omega arith in (
-      ap₂ ◌+◌ c.before.before.wide.ensures.0
+      ap₂ ◌+◌ c.wide.ensures.0
           (c.ones_in.ensures.0 ∙ ap ones (shr-shr w 1 (63 - 2 * k) ∙ ap (λ (x : ℕ). w / 2 ^ x) e)),
       omega arith,
     )
-
-pub on-bits-before-spec : {M : Type 1} → statement M
-on-bits-before-spec =
-    tie.close
-    (tie.spec
-    (λ c. search rules)
-    (λ c. search rules)
-    (λ c. search rules)
-    (λ c κs. search rules)
-    (λ c. search rules)
-    (λ c. search rules)
-    (λ c. search rules)
-    (λ c. search rules)
-    (λ c. search rules)
-    (λ c κs. search rules)
-    (λ c. search rules)
-    returns)

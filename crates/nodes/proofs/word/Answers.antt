@@ -6,8 +6,7 @@ use native.Mathlib.Omega.{arith}
 use borrow.Author.Rules.{rules}
 use lib.ListN.{get_or}
 use Rattle.nodes.specs.Words.{half_at, word_at}
-use Rattle.nodes.proofs.word.Statement.{statement}
-use Rattle.nodes.proofs.word.Tie as tie
+use Rattle.nodes.proofs.word.Goals as goal
 
 -- eight bytes are two halves
 two_halves : (l : List ℕ) (i : ℕ) → word_at l i ≡ half_at l i * 4294967296 + half_at l (i + 4)
@@ -18,16 +17,5 @@ two_halves l i =
     let e₃ : i + 4 + 3 ≡ i + 7 = omega arith in
     omega (arith, ap (λ (k : ℕ). get_or l k 0) e₁, ap (λ (k : ℕ). get_or l k 0) e₂, ap (λ (k : ℕ). get_or l k 0) e₃)
 
-returns : tie.Need-returns
-returns c = omega (arith, two_halves c.before.before.before.args.s.now c.before.before.before.args.at, c.before.half.ensures.0, c.half2.ensures.0)
-
-pub word-spec : {M : Type 1} → statement M
-word-spec =
-    tie.close
-    (tie.spec
-    (λ c κs. search rules)
-    (λ c. search rules)
-    (λ c. search rules)
-    (λ c κs. search rules)
-    (λ c. search rules)
-    returns)
+pub returns : goal.returns
+returns c = omega (arith, two_halves c.args.s.now c.args.at, c.half.ensures.0, c.half-2.ensures.0)

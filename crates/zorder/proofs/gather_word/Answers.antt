@@ -5,8 +5,7 @@ use native.Mathlib.Omega.{arith}
 use mathlib.Core.Path.{◌≡◌}
 use Rattle.format.specs.Key.{gather}
 use Rattle.format.proofs.Keys.{gather-join}
-use Rattle.zorder.proofs.gather_word.Statement.{statement}
-use Rattle.zorder.proofs.gather_word.Tie as tie
+use Rattle.zorder.proofs.gather_word.Goals as goal
 
 -- two parts of eight bits, each of two parts of four
 parts : (x : ℕ) → gather 4 x + 16 * gather 4 (x / 256) + 256 * (gather 4 (x / 65536) + 16 * gather 4 (x / 16777216)) ≡ gather 16 x
@@ -17,12 +16,5 @@ parts x =
     let whole = gather-join 8 8 x in
     rw (← quarter) (omega arith)
 
-returns : tie.Need-returns
-returns c = omega (arith, parts c.before.before.before.before.args.x)
-
-pub gather-word-spec : {M : Type 1} → statement M
-gather-word-spec =
-    tie.close
-    (tie.spec (λ c κs. search rules) (λ c κs. search rules) (λ c. search rules) (λ c. search rules)
-    (λ c κs. search rules) (λ c κs. search rules) (λ c. search rules) (λ c. search rules)
-    (λ c. search rules) (λ c. search rules) (λ c. search rules) returns)
+pub returns : goal.returns
+returns c = omega (arith, parts c.args.x)

@@ -4,18 +4,12 @@ use Prim.Native.Nat.{◌/◌}
 use mathlib.Core.Path.{◌≡◌}
 use native.Mathlib.Omega.{arith}
 use Rattle.format.specs.Key.{gather}
-use Rattle.zorder.proofs.gather_four.Statement.{statement}
-use Rattle.zorder.proofs.gather_four.Tie as tie
+use Rattle.zorder.proofs.gather_four.Goals as goal
 
-returns : tie.Need-returns
+pub returns : goal.returns
 unfolding gather
 returns c =
     let x = c.args.x in
     let third : x / 4 / 4 ≡ x / 16 = omega arith in
     let fourth : x / 16 / 4 ≡ x / 64 = omega arith in
     (rw (third, fourth) (omega arith), omega arith)
-
-pub gather-four-spec : {M : Type 1} → statement M
-gather-four-spec =
-    tie.close
-    (tie.spec (λ c. search rules) (λ c. search rules) (λ c. search rules) (λ c. search rules) (λ c. search rules) (λ c. search rules) returns)

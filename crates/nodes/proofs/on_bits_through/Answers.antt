@@ -1,0 +1,11 @@
+-- `nodes::on_bits_through` meets its contract: the on bits before the node's word, and those of the word through the node. Assumes nothing.
+use borrow.Author.Rules.{rules}
+use mathlib.Core.Path.{ap₂}
+use Prim.Native.Nat.{◌+◌}
+use native.Mathlib.Omega.{arith}
+use Rattle.nodes.specs.Words.{ones_through}
+use Rattle.nodes.proofs.on_bits_through.Goals as goal
+
+pub returns : goal.returns
+unfolding ones_through
+returns c = (ap₂ ◌+◌ c.wide.ensures.0 c.ones_in.ensures.0, omega arith)
