@@ -12,7 +12,7 @@ use band::bands_refusal;
 use header::{header_refusal, key_count};
 
 // The checker's answer: the key count of an accepted image, or its lift, or the number of the first question that gets a no.
-#[derive(Drop)]
+#[derive(Clone, Copy)]
 pub enum Checked {
     Accepted(usize),
     Refused(u8),

@@ -11,7 +11,7 @@ use header::number;
 use nodes::on_bits_before;
 
 // What the questions of a page find: the number of the first that gets a no, 0 where none does, and then the page's nodes and out-links.
-#[derive(Drop)]
+#[derive(Clone, Copy)]
 pub struct Shape {
     pub refusal: u8,
     pub nodes: usize,

@@ -14,7 +14,7 @@ use nodes::gather;
 use pages::{PageHead, band_at, head_of_link, node_count};
 
 // A root of a band, and the four bits that lead from it to where the climb started.
-#[derive(Drop)]
+#[derive(Clone, Copy)]
 pub struct Climbed {
     pub root: Root,
     pub bits: u32,

@@ -8,7 +8,7 @@ ghost use Rattle.climb.specs.Select.{Halved, Selected, SideOf};
 use nodes::wide;
 
 // A part of a word: the place of its lowest bit, counted from the word's lowest, and the on bits of the part to pass over.
-#[derive(Drop)]
+#[derive(Clone, Copy)]
 struct Part {
     low: usize,
     left: usize,

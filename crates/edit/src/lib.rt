@@ -17,7 +17,7 @@ use records::move_records;
 use writer::Written;
 
 // What is done to the list.
-#[derive(Drop)]
+#[derive(Clone, Copy)]
 pub enum Change {
     Add,
     Withdraw,

@@ -13,32 +13,32 @@ pub const LANES: usize = 8;
 
 // A holder number and a slot number, laid out as C lays it out.
 #[repr(C)]
-#[derive(Drop)]
+#[derive(Clone, Copy)]
 pub struct Admission {
     pub holder: u16,
     pub slot: u16,
 }
 
 // The numbers from `low` to `high`, ends included.
-#[derive(Drop)]
+#[derive(Clone, Copy)]
 pub struct Range {
     pub low: u16,
     pub high: u16,
 }
 
 // The admissions whose holder and slot lie in these ranges.
-#[derive(Drop)]
+#[derive(Clone, Copy)]
 pub struct Rectangle {
     pub holders: Range,
     pub slots: Range,
 }
 
 // The number of a root of a band, counted from 0.
-#[derive(Drop)]
+#[derive(Clone, Copy)]
 pub struct Root(pub usize);
 
 // The number of an out-link of a band, counted from 0: of an on bit of the band's fourth level.
-#[derive(Drop)]
+#[derive(Clone, Copy)]
 pub struct OutLink(pub usize);
 
 // The one place where an out-link becomes a root: out-link n of a band leads to root n of the band below.

@@ -13,7 +13,7 @@ use holder::holder_record;
 use paged_lookup::Presence;
 
 // What a scan gets.
-#[derive(Drop)]
+#[derive(Clone, Copy)]
 pub enum Scanned {
     // The rank whose opening was recorded.
     Opened(u32),

@@ -30,7 +30,7 @@ fn first_ending(holder: u16, number: usize) -> usize
 }
 
 // Two endings of a subtrie, one after the other: their two bits of the set, and the first out-link from there on.
-#[derive(Drop)]
+#[derive(Clone, Copy)]
 struct Pair {
     on: u32,
     link: OutLink,

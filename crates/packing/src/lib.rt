@@ -8,21 +8,21 @@ ghost use Rattle.format.specs.Writer.{ascending};
 ghost use Rattle.packing.specs.Run.{differ, more_nodes, joined, Prefixes, PageIs, BandCounted};
 
 // The end of a page's run of prefixes, and the page's nodes.
-#[derive(Drop)]
+#[derive(Clone, Copy)]
 pub struct PageRun {
     pub end: usize,
     pub nodes: usize,
 }
 
 // The pages begun, and the nodes on the last of them.
-#[derive(Drop)]
+#[derive(Clone, Copy)]
 struct Packing {
     pages: usize,
     used: usize,
 }
 
 // The pages and the roots of a band.
-#[derive(Drop)]
+#[derive(Clone, Copy)]
 pub struct BandCounts {
     pub pages: usize,
     pub roots: usize,

@@ -10,14 +10,14 @@ ghost use Rattle.page_writer.specs.Page.{bit_in, page_left, byte_left, LevelRoom
 use format::{OutLink, Root};
 
 // Paper 01's T and B of a page: the numbers of its first root and its first out-link.
-#[derive(Drop)]
+#[derive(Clone, Copy)]
 pub struct Head {
     pub t: Root,
     pub b: OutLink,
 }
 
 // The place of the first parent among the prefixes, and the level's first node.
-#[derive(Drop)]
+#[derive(Clone, Copy)]
 struct Level {
     first: usize,
     node: usize,

@@ -15,7 +15,7 @@ use header::{links_due, number, page_count, root_count};
 use pages::{band_at, head_of_root};
 
 // A key's way through a band, and the number of its page in the image.
-#[derive(Drop)]
+#[derive(Clone, Copy)]
 pub struct Step {
     pub way: Way,
     pub page: usize,

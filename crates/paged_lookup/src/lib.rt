@@ -18,7 +18,7 @@ use page::Way;
 use zorder::weave;
 
 // What lookup of a holder and a slot finds.
-#[derive(Drop)]
+#[derive(Clone, Copy)]
 pub enum Presence {
     // The rank; the page numbers stand beside.
     Listed(u32),

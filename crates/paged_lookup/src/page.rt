@@ -18,7 +18,7 @@ use pages::{PageHead, node_count};
 
 // Where a key's bits lead: to an out-link of the band; past an off bit to a figure, by the out-links of the band that lie left; or the number of the question that
 // got a no.
-#[derive(Drop)]
+#[derive(Clone, Copy)]
 pub enum Way {
     Out(OutLink),
     Off(OutLink),
@@ -26,7 +26,7 @@ pub enum Way {
 }
 
 // A page that 9 to 11 gave a yes: how many roots and nodes it has, and B, its first out-link.
-#[derive(Drop)]
+#[derive(Clone, Copy)]
 pub struct Judged {
     pub roots: usize,
     pub nodes: usize,
@@ -34,7 +34,7 @@ pub struct Judged {
 }
 
 // A place in a page, and whether all the key's bits so far were on: the place is then that of the key's node, else the nodes of the level before it lie left.
-#[derive(Drop)]
+#[derive(Clone, Copy)]
 pub struct Position {
     pub place: usize,
     pub on: bool,

@@ -10,7 +10,7 @@ use format::{OutLink, Root};
 use nodes::{Words, gather, on_bits};
 
 // A band: its number, from 1, the number of its first page, how many pages and roots it has.
-#[derive(Drop)]
+#[derive(Clone, Copy)]
 pub struct Band {
     pub number: usize,
     pub first: usize,
@@ -34,7 +34,7 @@ pub struct Page {
 
 // A page without its nodes: its band's number, its index in the band, its number in the image, T, B, how many roots and out-links
 // it has. The jobs that open each page once gather its nodes where they read them: a page with its words is a large copy.
-#[derive(Drop)]
+#[derive(Clone, Copy)]
 pub struct PageHead {
     pub band: usize,
     pub index: usize,

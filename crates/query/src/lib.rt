@@ -16,14 +16,14 @@ use walk::{count_members, list_members};
 use zorder::unweave;
 
 // How many members a rectangle has.
-#[derive(Drop)]
+#[derive(Clone, Copy)]
 pub enum Members {
     Count(usize),
     Refused(u8),
 }
 
 // The admission of a rank.
-#[derive(Drop)]
+#[derive(Clone, Copy)]
 pub enum ByRank {
     At(Admission),
     Refused(u8),

@@ -11,7 +11,7 @@ use format::{OutLink, Root, cross};
 use header::{lift_right, mark_right, page_count, total_pages, version_known, zeros_right};
 
 // What is held in a page: its roots, 0 where 9 to 12 refuse every number of them, its nodes and its out-links.
-#[derive(Drop)]
+#[derive(Clone, Copy)]
 pub struct Held {
     pub roots: usize,
     pub nodes: usize,
@@ -62,7 +62,7 @@ fn none_held() -> Held
 }
 
 // What is held in a band: whether its pages are, and then the root after its last and the out-link after its last.
-#[derive(Drop)]
+#[derive(Clone, Copy)]
 pub struct Sums {
     pub fine: bool,
     pub roots: Root,

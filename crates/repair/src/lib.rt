@@ -13,7 +13,7 @@ use fill::fill;
 use judge::judge;
 
 // The repair's answer: how many 16-bit numbers it altered, or the number of the first question that gets a no.
-#[derive(Drop)]
+#[derive(Clone, Copy)]
 pub enum Repaired {
     Altered(usize),
     Refused(u8),

@@ -54,7 +54,7 @@ fn share(low: usize, high: usize, nodes: usize, of: usize, per: usize) -> usize
 }
 
 // Where the levels of a page of so many roots start, from its words, and where the page ends: after its last node, or somewhere past the page.
-#[derive(Drop)]
+#[derive(Clone, Copy)]
 pub struct Levels {
     pub third: usize,
     pub fourth: usize,
@@ -75,7 +75,7 @@ fn levels_of<'a>(word: &'a [u64; 9], before: &'a [u16; 9], roots: usize) -> Leve
 }
 
 // The only number of roots that a page can have, 0 where it can have none, and where its third and fourth level then start and its nodes end.
-#[derive(Drop)]
+#[derive(Clone, Copy)]
 pub struct Found {
     pub roots: usize,
     pub third: usize,

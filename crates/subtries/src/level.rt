@@ -34,7 +34,7 @@ pub fn path_set(one: u32, two: u32, three: u32, four: u32) -> u32
 }
 
 // A level of a subtrie: the bits of its nodes, and the place after them.
-#[derive(Drop)]
+#[derive(Clone, Copy)]
 pub struct Level {
     pub bits: u32,
     pub place: usize,
@@ -69,7 +69,7 @@ pub fn next_level(page: &[u8], place: usize, set: u32, width: usize) -> Level
 }
 
 // Where the levels of a subtrie after its root start in the page, and where its out-links start past the page's nodes.
-#[derive(Drop)]
+#[derive(Clone, Copy)]
 pub struct Starts {
     pub second: usize,
     pub third: usize,

@@ -22,7 +22,7 @@ use pages::{Band, band_at, page_near};
 
 // A root, the first root after its page, where the page starts in the image, where the levels of the root's subtrie start in the page, and the root's
 // first out-link.
-#[derive(Drop)]
+#[derive(Clone, Copy)]
 pub struct Spot {
     pub root: Root,
     pub end: Root,
@@ -35,7 +35,7 @@ pub struct Spot {
 }
 
 // The out-links of a root: bit 15 of `set` for the ending 0, bit 0 for 15. `link` is the first of them.
-#[derive(Drop)]
+#[derive(Clone, Copy)]
 pub struct Subtrie {
     pub set: u32,
     pub link: OutLink,

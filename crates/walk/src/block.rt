@@ -6,7 +6,7 @@ ghost use Rattle.walk.specs.Block.{BlockOf, RangeRight, PlaceRight};
 use format::{Range, Rectangle};
 
 // The keys that start with `prefix`. Its bits are those of `holder` and of `slot` by turns.
-#[derive(Drop)]
+#[derive(Clone, Copy)]
 pub struct Block {
     pub prefix: u32,
     pub holder: u32,
@@ -14,7 +14,7 @@ pub struct Block {
 }
 
 // How a block lies to a rectangle.
-#[derive(Drop)]
+#[derive(Clone, Copy)]
 pub enum Place {
     Apart,
     Inside,

@@ -18,7 +18,7 @@ use format::Admission;
 use image_writer::Plan;
 
 // The image's length, or the number of the question that got a no.
-#[derive(Drop)]
+#[derive(Clone, Copy)]
 pub enum Written {
     Length(usize),
     Refused(u8),
