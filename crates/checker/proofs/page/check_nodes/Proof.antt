@@ -27,43 +27,38 @@ b s = ones_before (word s) (counts s) (third_in (word s) (counts s) s.args.roots
 third_known : (s : tie.Start) → Third (word s) (counts s) s.args.roots (a s) (b s)
 third_known s = levels s.requires.0 s.requires.1 s.requires.2
 
-abbrev start : tie.After-on-bits-before → tie.Start
+abbrev start : tie.After-on_bits_before-fourth_on → tie.Start
 start c = c.before.before
 
-fourth_known : (c : tie.After-on-bits-before) → Fourth (word (start c)) (counts (start c)) (start c).args.roots (a (start c)) (b (start c)) c.on-bits-before.result
+fourth_known : (c : tie.After-on_bits_before-fourth_on) → Fourth (word (start c)) (counts (start c)) (start c).args.roots (a (start c)) (b (start c)) c.on_bits_before-fourth_on.result
 fourth_known c =
     let e = (start c).requires.3 in
-    fourth (third_known (start c)) (omega (arith, e, c.before.if1.false)) c.on-bits-before.result (c.on-bits-before.ensures.0 ∙ ap (ones_before (word (start c)) (counts (start c))) e)
+    fourth (third_known (start c)) (omega (arith, e, c.if-fourth-gt240.false)) c.on_bits_before-fourth_on.result (c.on_bits_before-fourth_on.ensures.0 ∙ ap (ones_before (word (start c)) (counts (start c))) e)
 
 -- past questions 10 and 11
-abbrev f : tie.After-on-bits → tie.After-on-bits-before
+abbrev f : tie.After-on_bits → tie.After-on_bits_before-fourth_on
 f c = c.before.before.before.before.before.before
 
-ended_known : (c : tie.After-on-bits) → Ended (word (start (f c))) (counts (start (f c))) (start (f c)).args.roots (a (start (f c))) (b (start (f c))) (f c).on-bits-before.result c.on-bits.result
+ended_known : (c : tie.After-on_bits) → Ended (word (start (f c))) (counts (start (f c))) (start (f c)).args.roots (a (start (f c))) (b (start (f c))) (f c).on_bits_before-fourth_on.result c.on_bits.result
 ended_known c =
-    let r = c.before.before in
-    let n = r.before.before in
-    ended (fourth_known (f c)) n.before.if2.false _ n.none-empty.ensures (not-false _ r.before.if3.false) _ r.rest-empty.ensures (not-false _ c.before.if4.false) c.on-bits.result c.on-bits.ensures.0
+    ended (fourth_known (f c)) c.if-end-gt240.false _ c.none_empty.ensures (c.if-not-none_empty.false) _ c.rest_empty.ensures (c.if-not-rest_empty.false) c.on_bits.result c.on_bits.ensures.0
 
-returns : tie.Need-returns
-returns c = let s = c.before.before in refused_page _ (sym (over_fourth (third_known s) (omega (arith, s.requires.3, c.before.if1.true)))) c.refused.ensures
+returns : tie.Need-returns-then-fourth-gt240
+returns c = refused_page _ (sym (over_fourth (third_known c.before.before) (omega (arith, c.requires.3, c.if-fourth-gt240.true)))) c.refused.ensures
 
-returns-2 : tie.Need-returns-2
-returns-2 c = refused_page _ (sym (over_end (fourth_known c.before.before) c.before.if2.true)) c.refused2.ensures
+returns-2 : tie.Need-returns-then-end-gt240
+returns-2 c = refused_page _ (sym (over_end (fourth_known c.before.before) c.if-end-gt240.true)) c.refused-then-end-gt240.ensures
 
-returns-3 : tie.Need-returns-3
+returns-3 : tie.Need-returns-then-not-none_empty
 returns-3 c =
-    let n = c.before.before in
-    refused_page _ (sym (empty_found (fourth_known n.before.before) n.before.if2.false _ n.none-empty.ensures (not-true _ c.before.if3.true))) c.refused3.ensures
+    refused_page _ (sym (empty_found (fourth_known c.before.before.before.before) c.if-end-gt240.false _ c.none_empty.ensures (c.if-not-none_empty.true))) c.refused-then-not-none_empty.ensures
 
-returns-4 : tie.Need-returns-4
+returns-4 : tie.Need-returns-then-not-rest_empty
 returns-4 c =
-    let r = c.before.before in
-    let n = r.before.before in
-    refused_page _ (sym (rest_found (fourth_known n.before.before) n.before.if2.false _ n.none-empty.ensures (not-false _ r.before.if3.false) _ r.rest-empty.ensures (not-true _ c.before.if4.true))) c.refused4.ensures
+    refused_page _ (sym (rest_found (fourth_known c.before.before.before.before.before.before) c.if-end-gt240.false _ c.none_empty.ensures (c.if-not-none_empty.false) _ c.rest_empty.ensures (c.if-not-rest_empty.true))) c.refused-then-not-rest_empty.ensures
 
-pub check-nodes-spec : {M : Type 1} → statement M
-check-nodes-spec =
+pub check_nodes_spec : {M : Type 1} → statement M
+check_nodes_spec =
     tie.close
     (tie.spec
     (λ c κs. search rules)

@@ -1,0 +1,9 @@
+-- `checker::page::fourth_level` meets its contract. Assumes nothing.
+use mathlib.Core.Path.{ap, ◌∙◌}
+use Prim.Native.Nat.{◌+◌}
+use borrow.Author.Rules.{rules}
+use Rattle.nodes.specs.Words.{ones_before}
+use Rattle.checker.proofs.page.fourth_level.Goals as goal
+
+pub returns : goal.returns
+returns c = ap (c.args.roots +◌) (c.on_bits_before.ensures.0 ∙ ap (ones_before c.args.word.now c.args.before.now) c.requires.1)

@@ -1,0 +1,21 @@
+-- `pages::last_page` meets its contract. The loop's invariant: the page is `low` or a later one below `high`. Assumes nothing.
+use Prim.Native.Nat.{◌-◌}
+use native.Mathlib.Omega.{arith}
+use Rattle.pages.proofs.Search.{Search, search_start, search_up, search_down, search_end}
+use Rattle.pages.proofs.last_page.Goals as goal
+
+pub loop-low-init : goal.loop-low-init
+loop-low-init c = let p = c.requires in search_start _ _ _ _ p.0 p.1 p.2 p.3
+
+pub head_at-requires : goal.head_at-requires
+head_at-requires c =
+    let s = c.loop-low.invariant in (s.ready, s.read, s.field, omega (arith, s.upper))
+
+pub loop-low-preserved-then-head_at-x : goal.loop-low-preserved-then-head_at-x
+loop-low-preserved-then-head_at-x c = search_up c.loop-low.invariant _ _ (omega arith) c.head_at.ensures.0 c.if-head_at-x.true
+
+pub loop-low-preserved : goal.loop-low-preserved
+loop-low-preserved c = search_down c.loop-low.invariant _ _ (omega arith) c.head_at.ensures.0 (omega arith) c.if-head_at-x.false
+
+pub returns : goal.returns
+returns c = search_end c.loop-low.invariant c.loop-low-test.false

@@ -1,0 +1,11 @@
+-- `pages::last_page` meets its contract. The loop's invariant: the page is `low` or a later one below `high`. Assumes nothing.
+use Prim.Native.Nat.{◌-◌}
+use native.Mathlib.Omega.{arith}
+use Rattle.pages.proofs.Search.{Search, search_start, search_up, search_down, search_end}
+use Rattle.pages.proofs.last_page.Given as goal
+
+abbrev pub invariant-loop-low : goal.invariant-loop-low
+invariant-loop-low l = Search l.image l.band l.field l.x l.low l.high
+
+abbrev pub decreases-loop-low : goal.decreases-loop-low
+decreases-loop-low l = l.high - l.low
