@@ -5,12 +5,12 @@ use Rattle.checker.proofs.After.{accepted_lift, accepted_long, answer_accepted, 
 use Rattle.checker.proofs.lift.Goals as goal
 
 pub lift-requires : goal.lift-requires
-lift-requires c = accepted_long _ _ (answer_accepted _ _ c.check.ensures c.enum_told-1.given.1)
+lift-requires c = accepted_long _ _ (answer_accepted _ _ c.check.ensures c.in-Accepted.is)
 
 pub returns-in-Accepted : goal.returns-in-Accepted
 unfolding outcome_of
-returns-in-Accepted c = accepted_lift _ _ (answer_accepted _ _ c.check.ensures c.enum_told-1.given.1) _ c.lift.ensures.0
+returns-in-Accepted c = accepted_lift _ _ (answer_accepted _ _ c.check.ensures c.in-Accepted.is) _ c.lift.ensures.0
 
 pub returns-in-Refused : goal.returns-in-Refused
 unfolding outcome_of
-returns-in-Refused c = refused_lift _ _ (answer_refused _ _ c.check.ensures c.n-1.given.1)
+returns-in-Refused c = refused_lift _ _ (answer_refused _ _ c.check.ensures c.in-Refused.is)

@@ -70,7 +70,7 @@ fourth-level-requires c κs = ((g₁ c.before.before).requires.2, c.third_level-
 
 check-nodes-requires : tie.Need-check_nodes-found-requires
 check-nodes-requires c κs =
-    let g = g₁ (g₂ t.before.before) in
+    let g = g₁ (g₂ c.before.before) in
     (gathered g, g.requires.1, g.requires.2, c.fourth_level-fourth.ensures)
 
 returns : tie.Need-returns-then-found-ne0
@@ -79,7 +79,7 @@ returns c = refused_before _ _ _ (found c.before.before) c.if-found-ne0.true
 
 page-needed-requires : tie.Need-page_needed-requires
 page-needed-requires c κs =
-    let t = two m.before.before.before.before in
+    let t = two c.before.before.before.before in
     let g = g₁ (g₂ t) in
     (gathered g, asked c.before.before.before.before c.if-found-ne0.false, (g₂ t).third_level-third.ensures.0, t.fourth_level-fourth.ensures, g.requires.3)
 
