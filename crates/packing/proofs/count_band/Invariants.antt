@@ -1,0 +1,16 @@
+-- `packing::count_band` meets its contract. The invariant is `Counting`, of the prefixes as they were before the first was replaced, and the root of the last read.
+use mathlib.Core.Path.{◌≡◌, refl, sym, ◌∙◌}
+use mathlib.Core.Logic.{⊎_elim}
+use Prim.Native.Nat.{◌-◌, ◌/◌}
+use native.Mathlib.Omega.{arith}
+use borrow.Author.Rules.{rules}
+use lib.ListN.{length, set, length-set}
+use Rattle.copying.proofs.Stores.{put_back}
+use Rattle.packing.proofs.Counting.{Counting, count_none, count_start, count_same, count_next, count-done}
+use Rattle.packing.proofs.count_band.Given as goal
+
+abbrev pub invariant-loop-i : goal.invariant-loop-i
+invariant-loop-i l = Counting (set l.initial.keys 0 l.initial.x) l.keys l.x l.roots l.packing l.size l.i × (l.root ≡ l.x / 16)
+
+abbrev pub decreases-loop-i : goal.decreases-loop-i
+decreases-loop-i l = length (set l.initial.keys 0 l.initial.x) - l.i

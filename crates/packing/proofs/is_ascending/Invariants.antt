@@ -1,0 +1,13 @@
+-- `packing::is_ascending` meets its contract. The invariant is `Tested`. Assumes nothing.
+use mathlib.Core.Logic.{⊎_elim}
+use Prim.Native.Nat.{◌-◌}
+use borrow.Author.Rules.{rules}
+use lib.ListN.{length}
+use Rattle.packing.proofs.Ascending.{Tested, tested_start, tested_no, tested_next, tested_end}
+use Rattle.packing.proofs.is_ascending.Given as goal
+
+abbrev pub invariant-loop-i : goal.invariant-loop-i
+invariant-loop-i l = Tested l.keys l.all l.i
+
+abbrev pub decreases-loop-i : goal.decreases-loop-i
+decreases-loop-i l = length l.keys - l.i
