@@ -8,7 +8,7 @@ ghost use Rattle.reader.specs.Page.{NodesIn};
 use nodes::word;
 
 // A page, and the node reached.
-#[derive(Drop)]
+#[derive(Clone, Copy)]
 pub struct Reader<'a> {
     pub page: &'a [u8],
     pub node: usize,
