@@ -14,174 +14,143 @@ use Rattle.subtries.proofs.advance.Statement.{statement}
 use Rattle.subtries.proofs.advance.Tie as tie
 
 -- the spot of the band
-here : (q : tie.After-load) → let a = q.before.before.before.args in SpotAt a.image.now a.number q.load.result
-here q = let p = q.before.before.before.requires in subst (SpotAt _ _) (sym q.load.ensures) (p.3.each _ p.1 p.2 p.4)
+here : (q : tie.After-load-spot) → let a = q.args in SpotAt a.image.now a.number q.load-spot.result
+here q = let p = q.requires in subst (SpotAt _ _) (sym q.load-spot.ensures) (p.3.each _ p.1 p.2 p.4)
 
 -- the subtrie of the root that the state has
-same_root : (q : tie.After-load) {set link : ℕ} → let a = q.before.before.before.args in
-    SubtrieRead a.image.now a.number (root_prefix a.image.now a.number q.load.result.root.0) set link
+same_root : (q : tie.After-load-spot) {set link : ℕ} → let a = q.args in
+    SubtrieRead a.image.now a.number (root_prefix a.image.now a.number q.load-spot.result.root.0) set link
     → SubtrieRead a.image.now a.number (root_prefix a.image.now a.number (root_in a.state.now a.number)) set link
-same_root q s = let a = q.before.before.before.args in read_same a.image.now a.number (ap (λ (t : Spot). t.root.0) q.load.ensures) s
+same_root q s = let a = q.args in read_same a.image.now a.number (ap (λ (t : Spot). t.root.0) q.load-spot.ensures) s
 
-add-bytes : tie.Need-overflow-add-bytes
+add-bytes : tie.Need-overflow_add-bytes
 add-bytes c =
-    let q = c in
-    let p = q.before.before.before.requires in
-    omega (arith, bytes_fit p.0 p.1 p.2 (here q))
+    let p = c.requires in
+    omega (arith, bytes_fit p.0 p.1 p.2 (here c))
 
-part-bytes-end : tie.Need-slice-bounds-bytes-end
+part-bytes-end : tie.Need-slice_bounds-bytes-end
 part-bytes-end c =
-    let q = c in
-    let p = q.before.before.before.requires in
-    omega (arith, bytes_fit p.0 p.1 p.2 (here q))
+    let p = c.requires in
+    omega (arith, bytes_fit p.0 p.1 p.2 (here c))
 
-node-requires : tie.Need-node-requires
+node-requires : tie.Need-node-one-requires
 node-requires c κs =
-    let q = c.before.before in
-    let p = q.before.before.before.requires in
-    let e = part_is q.before.before.before.args.image.now q.load.result.at in
-    (part_length p.0 p.1 p.2 (here q) e, start_fits p.0 p.1 p.2 (here q) e (here q).start₀)
+    let p = c.requires in
+    let e = part_is c.args.image.now c.load-spot.result.at in
+    (part_length p.0 p.1 p.2 (here c.before.before) e, start_fits p.0 p.1 p.2 (here c.before.before) e (here c.before.before).start₀)
 
-node-requires-2 : tie.Need-node-requires-2
+node-requires-2 : tie.Need-node-two-requires
 node-requires-2 c κs =
-    let q = c.before.before.before in
-    let p = q.before.before.before.requires in
-    let e = part_is q.before.before.before.args.image.now q.load.result.at in
-    (part_length p.0 p.1 p.2 (here q) e, start_fits p.0 p.1 p.2 (here q) e (here q).start₁)
+    let p = c.requires in
+    let e = part_is c.args.image.now c.load-spot.result.at in
+    (part_length p.0 p.1 p.2 (here c.before.before.before) e, start_fits p.0 p.1 p.2 (here c.before.before.before) e (here c.before.before.before).start₁)
 
-node-requires-3 : tie.Need-node-requires-3
+node-requires-3 : tie.Need-node-three-requires
 node-requires-3 c κs =
-    let q = c.before.before.before.before in
-    let p = q.before.before.before.requires in
-    let e = part_is q.before.before.before.args.image.now q.load.result.at in
-    (part_length p.0 p.1 p.2 (here q) e, start_fits p.0 p.1 p.2 (here q) e (here q).start₂)
+    let p = c.requires in
+    let e = part_is c.args.image.now c.load-spot.result.at in
+    (part_length p.0 p.1 p.2 (here c.before.before.before.before) e, start_fits p.0 p.1 p.2 (here c.before.before.before.before) e (here c.before.before.before.before).start₂)
 
-add-move-root : tie.Need-overflow-add-move-root
+add-move-root : tie.Need-overflow_add-first
 add-move-root c =
-    let q = c.before.before.before.before.before.before in
-    let p = q.before.before.before.requires in
-    let e = part_is q.before.before.before.args.image.now q.load.result.at in
-    omega (arith, start_fits p.0 p.1 p.2 (here q) e (here q).start₀)
+    let p = c.requires in
+    let e = part_is c.args.image.now c.load-spot.result.at in
+    omega (arith, start_fits p.0 p.1 p.2 (here c.before.before.before.before.before.before) e (here c.before.before.before.before.before.before).start₀)
 
-move-root-requires : tie.Need-move-root-requires
+move-root-requires : tie.Need-move_root-requires
 move-root-requires c κs =
-    let q = c.before.before.before.before.before.before in
-    let p = q.before.before.before.requires in
-    (p.1, p.2, omega (arith, root_small p.0 p.1 p.2 (here q), ap (λ (t : Spot). t.root.0) q.load.ensures))
+    let p = c.requires in
+    (p.1, p.2, omega (arith, root_small p.0 p.1 p.2 (here c.before.before.before.before.before.before), ap (λ (t : Spot). t.root.0) c.load-spot.ensures))
 
-node-requires-4 : tie.Need-node-requires-4
+node-requires-4 : tie.Need-node-four-requires
 node-requires-4 c κs =
-    let q = c.before.before.before.before.before.before.before.before.before.before in
-    let p = q.before.before.before.requires in
-    let e = part_is q.before.before.before.args.image.now q.load.result.at in
-    (part_length p.0 p.1 p.2 (here q) e, start_fits p.0 p.1 p.2 (here q) e (here q).start₃)
+    let p = c.requires in
+    let e = part_is c.args.image.now c.load-spot.result.at in
+    (part_length p.0 p.1 p.2 (here c.before.before.before.before.before.before.before.before.before.before) e, start_fits p.0 p.1 p.2 (here c.before.before.before.before.before.before.before.before.before.before) e (here c.before.before.before.before.before.before.before.before.before.before).start₃)
 
-add-out : tie.Need-overflow-add-move-starts
+add-out : tie.Need-overflow_add-out
 add-out c =
-    let q = c.before.before.before.before.before.before.before.before.before.before.before.before.before in
-    let p = q.before.before.before.requires in
-    omega (arith, link_small p.0 p.1 p.2 (here q), c.before.on-bits.ensures.1)
+    let p = c.requires in
+    omega (arith, link_small p.0 p.1 p.2 (here c.before.before.before.before.before.before.before.before.before.before.before.before.before), c.on_bits.ensures.1)
 
-add-second : tie.Need-overflow-add-move-starts-2
+add-second : tie.Need-overflow_add-second
 add-second c =
-    let q = c.before.before.before.before.before.before.before.before.before.before.before.before.before.before in
-    let p = q.before.before.before.requires in
-    let e = part_is q.before.before.before.args.image.now q.load.result.at in
-    omega (arith, start_fits p.0 p.1 p.2 (here q) e (here q).start₁)
+    let p = c.requires in
+    let e = part_is c.args.image.now c.load-spot.result.at in
+    omega (arith, start_fits p.0 p.1 p.2 (here c.before.before.before.before.before.before.before.before.before.before.before.before.before.before) e (here c.before.before.before.before.before.before.before.before.before.before.before.before.before.before).start₁)
 
-add-third : tie.Need-overflow-add-move-starts-3
+add-third : tie.Need-overflow_add-third
 add-third c =
-    let q = c.before.before.before.before.before.before.before.before.before.before.before.before.before.before in
-    let p = q.before.before.before.requires in
-    let e = part_is q.before.before.before.args.image.now q.load.result.at in
-    omega (arith, start_fits p.0 p.1 p.2 (here q) e (here q).start₂)
+    let p = c.requires in
+    let e = part_is c.args.image.now c.load-spot.result.at in
+    omega (arith, start_fits p.0 p.1 p.2 (here c.before.before.before.before.before.before.before.before.before.before.before.before.before.before) e (here c.before.before.before.before.before.before.before.before.before.before.before.before.before.before).start₂)
 
-add-fourth : tie.Need-overflow-add-move-starts-4
+add-fourth : tie.Need-overflow_add-fourth
 add-fourth c =
-    let q = c.before.before.before.before.before.before.before.before.before.before.before.before.before.before in
-    let p = q.before.before.before.requires in
-    let e = part_is q.before.before.before.args.image.now q.load.result.at in
-    omega (arith, start_fits p.0 p.1 p.2 (here q) e (here q).start₃)
+    let p = c.requires in
+    let e = part_is c.args.image.now c.load-spot.result.at in
+    omega (arith, start_fits p.0 p.1 p.2 (here c.before.before.before.before.before.before.before.before.before.before.before.before.before.before) e (here c.before.before.before.before.before.before.before.before.before.before.before.before.before.before).start₃)
 
-returns : tie.Need-returns
+returns : tie.Need-returns-then-three-ne3
 returns c =
-    let n₄ = c.before.before.before.before.before in
-    let i₃ = n₄.before in
-    let i₂ = i₃.before in
-    let i₁ = i₂.before in
-    let m = i₁.before in
-    let n₃ = m.before.before in
-    let n₂ = n₃.before in
-    let n₁ = n₂.before in
-    let q = n₁.before.before.before in
-    let p = q.before.before.before.requires in
-    let e = part_is q.before.before.before.args.image.now q.load.result.at in
-    let e₁ = n₁.node.ensures.0 in
-    let e₂ = n₂.node2.ensures.0 in
-    let e₃ = n₃.node3.ensures.0 in
-    let e₄ = n₄.node4.ensures.0 in
-    let o = c.before.before.before.before.on-bits.ensures.0 in (
-      same_root q (path_read p.0 p.1 p.2 (here q) e e₁ e₂ e₃ e₄ i₁.if1.true i₂.if2.true i₃.if3.true c.path-set.ensures),
+    let p = c.requires in
+    let e = part_is c.args.image.now c.load-spot.result.at in
+    let e₁ = c.node-one.ensures.0 in
+    let e₂ = c.node-two.ensures.0 in
+    let e₃ = c.node-three.ensures.0 in
+    let e₄ = c.node-four.ensures.0 in
+    let o = c.on_bits.ensures.0 in (
+      same_root c.before.before.before.before.before.before.before.before.before.before.before.before.before.before.before.before (path_read p.0 p.1 p.2 (here c.before.before.before.before.before.before.before.before.before.before.before.before.before.before.before.before) e e₁ e₂ e₃ e₄ c.if-one-ne3.true c.if-two-ne3.true c.if-three-ne3.true c.path_set.ensures),
       spots_move p.3 _ p.1 p.2
-          (path_next p.0 p.1 p.2 (here q) e e₁ e₂ e₃ e₄ i₁.if1.true i₂.if2.true i₃.if3.true c.path-set.ensures
-          (ap (λ (t : Spot). t.root.0 + 1) (sym q.load.ensures)) (ap (λ (t : Spot). t.end.0) (sym q.load.ensures)) (ap (λ (t : Spot). t.at) (sym q.load.ensures)) refl refl refl refl o refl)
-          m.move-root.ensures c.before.move-starts.ensures,
+          (path_next p.0 p.1 p.2 (here c.before.before.before.before.before.before.before.before.before.before.before.before.before.before.before.before) e e₁ e₂ e₃ e₄ c.if-one-ne3.true c.if-two-ne3.true c.if-three-ne3.true c.path_set.ensures
+          (ap (λ (t : Spot). t.root.0 + 1) (sym c.load-spot.ensures)) (ap (λ (t : Spot). t.end.0) (sym c.load-spot.ensures)) (ap (λ (t : Spot). t.at) (sym c.load-spot.ensures)) refl refl refl refl o refl)
+          c.move_root.ensures c.move_starts.ensures,
     )
 
-next-level-requires : tie.Need-next-level-requires
+next-level-requires : tie.Need-next_level-two-requires
 next-level-requires c κs =
-    let q = c.before.before.before.before.before.before.before.before in
-    let p = q.before.before.before.requires in
-    let e = part_is q.before.before.before.args.image.now q.load.result.at in
-    (part_length p.0 p.1 p.2 (here q) e, start_fits p.0 p.1 p.2 (here q) e (here q).start₁, omega arith, omega arith, room₁ p.0 p.1 p.2 (here q) e c.before.before.before.before.before.node.ensures.0)
+    let p = c.requires in
+    let e = part_is c.args.image.now c.load-spot.result.at in
+    (part_length p.0 p.1 p.2 (here c.before.before.before.before.before.before.before.before) e, start_fits p.0 p.1 p.2 (here c.before.before.before.before.before.before.before.before) e (here c.before.before.before.before.before.before.before.before).start₁, omega arith, omega arith, room₁ p.0 p.1 p.2 (here c.before.before.before.before.before.before.before.before) e c.node-one.ensures.0)
 
-next-level-requires-2 : tie.Need-next-level-requires-2
+next-level-requires-2 : tie.Need-next_level-four-requires
 next-level-requires-2 c κs =
-    let q = c.before.before.before.before.before.before.before.before.before in
-    let p = q.before.before.before.requires in
-    let e = part_is q.before.before.before.args.image.now q.load.result.at in
-    (part_length p.0 p.1 p.2 (here q) e, start_fits p.0 p.1 p.2 (here q) e (here q).start₂, omega arith, omega arith, room₂ p.0 p.1 p.2 (here q) e c.before.before.before.before.before.before.node.ensures.0 c.next_level.ensures.0)
+    let p = c.requires in
+    let e = part_is c.args.image.now c.load-spot.result.at in
+    (part_length p.0 p.1 p.2 (here c.before.before.before.before.before.before.before.before.before) e, start_fits p.0 p.1 p.2 (here c.before.before.before.before.before.before.before.before.before) e (here c.before.before.before.before.before.before.before.before.before).start₂, omega arith, omega arith, room₂ p.0 p.1 p.2 (here c.before.before.before.before.before.before.before.before.before) e c.node-one.ensures.0 c.next_level-two.ensures.0)
 
-next-level-requires-3 : tie.Need-next-level-requires-3
+next-level-requires-3 : tie.Need-next_level-last-requires
 next-level-requires-3 c κs =
-    let q = c.before.before.before.before.before.before.before.before.before.before in
-    let p = q.before.before.before.requires in
-    let e = part_is q.before.before.before.args.image.now q.load.result.at in
-    (part_length p.0 p.1 p.2 (here q) e, start_fits p.0 p.1 p.2 (here q) e (here q).start₃, omega arith, omega arith, room₃ p.0 p.1 p.2 (here q) e c.before.before.before.before.before.before.before.node.ensures.0 c.before.next_level.ensures.0 c.next-level2.ensures.0)
+    let p = c.requires in
+    let e = part_is c.args.image.now c.load-spot.result.at in
+    (part_length p.0 p.1 p.2 (here c.before.before.before.before.before.before.before.before.before.before) e, start_fits p.0 p.1 p.2 (here c.before.before.before.before.before.before.before.before.before.before) e (here c.before.before.before.before.before.before.before.before.before.before).start₃, omega arith, omega arith, room₃ p.0 p.1 p.2 (here c.before.before.before.before.before.before.before.before.before.before) e c.node-one.ensures.0 c.next_level-two.ensures.0 c.next_level-four.ensures.0)
 
-add-out-2 : tie.Need-overflow-add-t22
+add-out-2 : tie.Need-overflow_add-out-2
 add-out-2 c =
-    let q = c.before.before.before.before.before.before.before.before.before.before.before.before.before.before in
-    let p = q.before.before.before.requires in
-    omega (arith, link_small p.0 p.1 p.2 (here q), c.before.ones_in.ensures.1)
+    let p = c.requires in
+    omega (arith, link_small p.0 p.1 p.2 (here c.before.before.before.before.before.before.before.before.before.before.before.before.before.before), c.ones_in.ensures.1)
 
-returns-2 : tie.Need-returns-2
+returns-2 : tie.Need-returns
 returns-2 c =
-    let l₃ = c.before.before.before.before.before in
-    let l₂ = l₃.before in
-    let l₁ = l₂.before in
-    let m = l₁.before.before in
-    let n₁ = m.before.before.before.before in
-    let q = n₁.before.before.before in
-    let p = q.before.before.before.requires in
-    let e = part_is q.before.before.before.args.image.now q.load.result.at in
-    let e₁ = n₁.node.ensures.0 in
-    let e₂ = l₁.next_level.ensures in
-    let e₃ = l₂.next-level2.ensures in
-    let e₄ = l₃.next-level3.ensures in
-    let o = c.before.before.before.ones_in.ensures.0 in (
-      same_root q (subtrie_read p.0 p.1 p.2 (here q) e e₁ e₂.0 e₃.0 e₄.0),
+    let p = c.requires in
+    let e = part_is c.args.image.now c.load-spot.result.at in
+    let e₁ = c.node-one.ensures.0 in
+    let e₂ = c.next_level-two.ensures in
+    let e₃ = c.next_level-four.ensures in
+    let e₄ = c.next_level-last.ensures in
+    let o = c.ones_in.ensures.0 in (
+      same_root c.before.before.before.before.before.before.before.before.before.before.before.before.before.before.before.before (subtrie_read p.0 p.1 p.2 (here c.before.before.before.before.before.before.before.before.before.before.before.before.before.before.before.before) e e₁ e₂.0 e₃.0 e₄.0),
       spots_move p.3 _ p.1 p.2
-          (next_spot p.0 p.1 p.2 (here q) e e₁ e₂.0 e₃.0 e₄.0
-          (ap (λ (t : Spot). t.root.0 + 1) (sym q.load.ensures)) (ap (λ (t : Spot). t.end.0) (sym q.load.ensures)) (ap (λ (t : Spot). t.at) (sym q.load.ensures)) refl e₂.2 e₃.2 e₄.2 o refl)
-          m.move-root.ensures c.move-starts2.ensures,
+          (next_spot p.0 p.1 p.2 (here c.before.before.before.before.before.before.before.before.before.before.before.before.before.before.before.before) e e₁ e₂.0 e₃.0 e₄.0
+          (ap (λ (t : Spot). t.root.0 + 1) (sym c.load-spot.ensures)) (ap (λ (t : Spot). t.end.0) (sym c.load-spot.ensures)) (ap (λ (t : Spot). t.at) (sym c.load-spot.ensures)) refl e₂.2 e₃.2 e₄.2 o refl)
+          c.move_root.ensures c.move_starts-2.ensures,
     )
 
-pub advance-spec : {M : Type 1} → statement M
-advance-spec =
+pub advance_spec : {M : Type 1} → statement M
+advance_spec =
     tie.close
     (tie.spec
-    (λ c κs. let p = c.before.before.requires in (p.1, p.2))
+    (λ c κs. let p = c.requires in (p.1, p.2))
     add-bytes
     (λ c. search rules)
     (λ c. search rules)
@@ -192,13 +161,13 @@ advance-spec =
     add-move-root
     move-root-requires
     node-requires-4
-    (λ c κs. c.node4.ensures.1)
+    (λ c κs. c.node-four.ensures.1)
     add-out
     add-second
     add-third
     add-fourth
-    (λ c κs. let p = c.before.before.before.before.before.before.before.before.before.before.before.before.before.before.before.before.before.requires in (p.1, p.2))
-    (λ c κs. c.before.before.before.before.node4.ensures.1)
+    (λ c κs. let p = c.requires in (p.1, p.2))
+    (λ c κs. c.node-four.ensures.1)
     returns
     next-level-requires
     next-level-requires-2
@@ -206,5 +175,5 @@ advance-spec =
     (λ c. search rules)
     (λ c κs. search rules)
     add-out-2
-    (λ c κs. let p = c.before.before.before.before.before.before.before.before.before.before.before.before.before.before.before.before.before.before.requires in (p.1, p.2))
+    (λ c κs. let p = c.requires in (p.1, p.2))
     returns-2)

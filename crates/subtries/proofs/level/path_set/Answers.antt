@@ -4,14 +4,10 @@ use native.Mathlib.Nat.{mod-eq_of_lt, mul-le-mul, pow-le-pow_right}
 use native.Mathlib.Omega.{arith}
 use borrow.Author.Rules.{rules}
 use Rattle.subtries.specs.Subtrie.{path_set}
-use Rattle.subtries.proofs.level.path_set.Statement.{statement}
-use Rattle.subtries.proofs.level.path_set.Tie as tie
+use Rattle.subtries.proofs.level.path_set.Goals as goal
 
-returns : tie.Need-returns
+pub returns : goal.returns
 unfolding path_set
 returns c =
     let k : ℕ = 14 - 2 * (4 * (c.args.one % 2) + 2 * (c.args.two % 2) + c.args.three % 2) in
     mod-eq_of_lt (omega (arith, mul-le-mul {n₁ = c.args.four} {m₁ = 2 ^ k} {n₂ = 3} {m₂ = 2 ^ 14} (omega arith) (pow-le-pow_right {n = 2} (omega arith) {i = k} {j = 14} (omega arith))))
-
-pub path-set-spec : {M : Type 1} → statement M
-path-set-spec = tie.close (tie.spec (λ c. search rules) (λ c. search rules) (λ c. search rules) (λ c. search rules) (λ c. search rules) (λ c. search rules) (λ c. search rules) returns)
