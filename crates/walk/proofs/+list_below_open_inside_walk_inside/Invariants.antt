@@ -1,0 +1,35 @@
+-- The proof of the cycle of calls {list_below, open_inside, walk_inside}. The measure is the bands left; the walker's loop ends with the out-links of the
+-- subtrie, the opener's with a subtrie of several out-links or a key.
+-- Assumes nothing.
+use mathlib.Core.Path.{refl, ap, ◌∙◌}
+use Prim.Native.Nat.{ℕ, ◌-◌, ◌*◌, ◌<◌}
+use native.Mathlib.Omega.{arith}
+use lib.ListN.{length}
+use Rattle.walk.specs.Walk.{any_key}
+use Rattle.walk.proofs.Endings.{power_positive}
+use Rattle.walk.proofs.Places.{listed_one}
+use Rattle.walk.proofs.Chains.{Chain, chain_start, chain_end, chain_walking, chain_some, chain_fits, chain_under, chain_listed, chain_key, chain_next, chain_put}
+use Rattle.walk.proofs.Steps.{members_key, room_one, room_same, root_there}
+use Rattle.walk.proofs.Walked.{Walk, walk_start, walk-rest, walk_first, walk_on, walk_next, walk_end, walked_key, walked_link, walked_on, walked_opening, walked_room}
+use Rattle.walk.proofs.+list_below_open_inside_walk_inside.Given as goal
+
+abbrev pub decreases-list_below : goal.decreases-list_below
+decreases-list_below l = 31 - 3 * l.band
+
+abbrev pub decreases-open_inside : goal.decreases-open_inside
+decreases-open_inside l = 30 - 3 * l.band
+
+abbrev pub decreases-walk_inside : goal.decreases-walk_inside
+decreases-walk_inside l = 29 - 3 * l.number
+
+abbrev pub invariant-open_inside-loop-number : goal.invariant-open_inside-loop-number
+invariant-open_inside-loop-number l = Chain l.image l.band l.prefix l.done l.initial.keys l.number l.next.0 l.key l.keys l.state
+
+abbrev pub decreases-open_inside-loop-number : goal.decreases-open_inside-loop-number
+decreases-open_inside-loop-number l = 9 - l.number
+
+abbrev pub invariant-walk_inside-loop-rest : goal.invariant-walk_inside-loop-rest
+invariant-walk_inside-loop-rest l = Walk l.image any_key l.number l.set l.prefix l.done l.initial.keys l.n l.next.0 l.rest l.keys l.state
+
+abbrev pub decreases-walk_inside-loop-rest : goal.decreases-walk_inside-loop-rest
+decreases-walk_inside-loop-rest l = l.rest

@@ -1,0 +1,18 @@
+-- `walk::list_key` meets its contract. Assumes nothing.
+use mathlib.Core.Path.{sym, ◌∙◌}
+use borrow.Author.Rules.{rules}
+use Rattle.format.specs.Seq.{cons_if, select}
+use Rattle.walk.proofs.Places.{listed_none, listed_one}
+use Rattle.walk.proofs.list_key.Goals as goal
+
+pub put-requires : goal.put-requires
+put-requires c = c.requires.1 (sym c.contains.ensures ∙ c.if-contains.true)
+
+pub returns-then-contains : goal.returns-then-contains
+unfolding cons_if select
+returns-then-contains c =
+    rw (c.put.ensures.0, c.put.ensures.1) (listed_one _ (rw (sym c.contains.ensures ∙ c.if-contains.true)))
+
+pub returns : goal.returns
+unfolding cons_if select
+returns c = listed_none (rw (sym c.contains.ensures ∙ c.if-contains.false))
