@@ -22,7 +22,7 @@ use Rattle.format.proofs.Back.{image_32, keys_descend}
 use Rattle.format.proofs.Descent.{node_at_lem, child_place_lem, rank_at, key_prefix}
 use Rattle.format.proofs.LastBelow.{last_below_lem}
 use Rattle.format.proofs.Places.{place_child, offset_within, level_next}
-use Rattle.format.proofs.Levels.{descend_parts, level_at, child_place, prefixes_asc, shape_below, level_count, level_valid, next_prefix, next_within, no_prefix, level_of_band, before_roots, before_links, before_next, four, nodes_are, pairs_split, node_is, node_index, node_within, place_within, child_at_place, child_at_index}
+use Rattle.format.proofs.Levels.{descend_parts, level_at, child_place, prefixes_asc, shape_below, level_count, level_valid, next_prefix, next_within, no_prefix, level_of_band, before_roots, before_links, before_next, nodes_are, pairs_split, node_is, node_index, node_within, place_within, child_at_place, child_at_index}
 
 -- ---- the way down
 

@@ -1,7 +1,6 @@
 -- `checker::check` meets its contract. Assumes nothing.
 use Rattle.checker.specs.Outcomes.{outcome_of}
 use Rattle.checker.proofs.Images.{header_refused, sized, bands_refused, accepted}
-use borrow.Author.Rules.{rules}
 use Rattle.checker.proofs.check.Goals as goal
 
 pub returns-then-of_header-ne0 : goal.returns-then-of_header-ne0

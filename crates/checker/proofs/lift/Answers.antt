@@ -1,5 +1,4 @@
 -- `checker::lift` meets its contract. Assumes nothing.
-use borrow.Author.Rules.{rules}
 use Rattle.checker.specs.Outcomes.{outcome_of}
 use Rattle.checker.proofs.After.{accepted_lift, accepted_long, answer_accepted, answer_refused, refused_lift}
 use Rattle.checker.proofs.lift.Goals as goal

@@ -1,8 +1,5 @@
 -- `copying::load` meets its contract. The invariant is `Loaded`. Assumes nothing.
-use Prim.Native.Nat.{◌-◌}
-use lib.ListN.{length}
-use borrow.Author.Rules.{rules}
-use Rattle.copying.proofs.Copied.{Loaded, loaded_start, loaded_next, loaded_end}
+use Rattle.copying.proofs.Copied.{loaded_start, loaded_next, loaded_end}
 use Rattle.copying.proofs.load.Goals as goal
 
 pub loop-i-init : goal.loop-i-init

@@ -1,8 +1,7 @@
 -- `copying::load_bytes` meets its contract. The invariant is `Loaded`. Assumes nothing.
 use Prim.Native.Nat.{◌-◌}
 use lib.ListN.{length}
-use borrow.Author.Rules.{rules}
-use Rattle.copying.proofs.Copied.{Loaded, loaded_start, loaded_next, loaded_end}
+use Rattle.copying.proofs.Copied.{Loaded}
 use Rattle.copying.proofs.load_bytes.Given as goal
 
 abbrev pub invariant-loop-i : goal.invariant-loop-i

@@ -1,7 +1,5 @@
 -- `copying::move_down` meets its contract. The invariant is `Moved`. Assumes nothing.
-use Prim.Native.Nat.{◌-◌}
-use borrow.Author.Rules.{rules}
-use Rattle.copying.proofs.Moves.{Moved, moved_start, moved_next, moved_end}
+use Rattle.copying.proofs.Moves.{moved_start, moved_next, moved_end}
 use Rattle.copying.proofs.move_down.Goals as goal
 
 pub loop-i-init : goal.loop-i-init

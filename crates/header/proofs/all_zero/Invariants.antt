@@ -1,14 +1,9 @@
 -- `header::all_zero` meets its contract. The loop's invariant: the bytes passed are zero, so those left decide. Assumes nothing.
-use mathlib.Core.Path.{◌≡◌, refl, sym, ap, ◌∙◌}
-use mathlib.Core.Bool.{◌&&◌}
-use Prim.Native.Nat.{ℕ, ◌+◌, ◌-◌, ◌%◌, ◌≤◌}
-use native.Mathlib.Omega.{arith}
-use borrow.Author.Tests.{eq-eqb, ne_eqb}
-use lib.Dec.{eqb}
+use mathlib.Core.Path.{◌≡◌}
+use Prim.Native.Nat.{◌-◌, ◌%◌, ◌≤◌}
 use lib.ListN.{take, drop}
 use Rattle.format.specs.Seq.{every}
 use Rattle.format.specs.Question.{is_zero}
-use Rattle.header.proofs.Turns.{numbers-zero}
 use Rattle.header.proofs.all_zero.Given as goal
 
 abbrev pub invariant-loop-i : goal.invariant-loop-i

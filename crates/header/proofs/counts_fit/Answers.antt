@@ -1,6 +1,5 @@
 -- `header::counts_fit` meets its contract. Assumes nothing.
 use Rattle.header.proofs.Asked.{fit_none, fit_pages, fit_roots, fit_rest}
-use borrow.Author.Rules.{rules}
 use Rattle.header.proofs.counts_fit.Goals as goal
 
 pub returns-then-key_count-eq0 : goal.returns-then-key_count-eq0

@@ -1,6 +1,6 @@
 -- `header::counts_positive` meets its contract. The loop's invariant: the counts passed are at least 1, so those left decide. Assumes nothing.
 use mathlib.Core.Path.{◌≡◌, refl, sym, ap, ◌∙◌}
-use Prim.Native.Nat.{ℕ, ◌-◌, ◌≤◌}
+use Prim.Native.Nat.{ℕ, ◌-◌}
 use native.Mathlib.Omega.{arith}
 use Rattle.format.specs.Seq.{every, numbers_from}
 use Rattle.header.specs.Refusal.{counts_positive}

@@ -1,10 +1,8 @@
 -- `header::counts_positive` meets its contract. The loop's invariant: the counts passed are at least 1, so those left decide. Assumes nothing.
-use mathlib.Core.Path.{◌≡◌, refl, sym, ap, ◌∙◌}
-use Prim.Native.Nat.{ℕ, ◌-◌, ◌≤◌}
-use native.Mathlib.Omega.{arith}
+use mathlib.Core.Path.{◌≡◌}
+use Prim.Native.Nat.{◌-◌, ◌≤◌}
 use Rattle.format.specs.Seq.{every, numbers_from}
 use Rattle.header.specs.Refusal.{counts_positive}
-use Rattle.header.proofs.Asked.{positive_no, positive_next, few_pages, few_roots, some_counts}
 use Rattle.header.proofs.counts_positive.Given as goal
 
 abbrev pub invariant-loop-band : goal.invariant-loop-band

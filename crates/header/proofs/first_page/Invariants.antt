@@ -1,11 +1,7 @@
 -- `header::first_page` meets its contract. The loop's invariant: the pages of the bands passed stand before. Assumes nothing.
-use mathlib.Core.Path.{◌≡◌, refl, ap}
-use Prim.Native.Nat.{ℕ, ◌+◌, ◌-◌, ◌*◌, ◌≤◌}
-use native.Mathlib.Numerals.{add-one}
-use native.Mathlib.Omega.{arith}
-use Rattle.format.specs.Seq.{numbers_from, total}
-use Rattle.format.specs.Image.{page_number, pages_before}
-use Rattle.format.proofs.Back.{pages_before-suc}
+use mathlib.Core.Path.{◌≡◌}
+use Prim.Native.Nat.{◌+◌, ◌-◌, ◌*◌, ◌≤◌}
+use Rattle.format.specs.Image.{pages_before}
 use Rattle.header.proofs.first_page.Given as goal
 
 abbrev pub invariant-loop-passed : goal.invariant-loop-passed

@@ -3,7 +3,7 @@ use mathlib.Core.Path.{refl, sym, ap}
 use Prim.Native.Nat.{ℕ, ◌+◌, ◌*◌}
 use lib.Dec.{leb, eqb}
 use lib.ListN.{length}
-use borrow.Author.Tests.{eq-eqb, le-leb, lt-leb, ne_eqb, not-true, not-false}
+use borrow.Author.Tests.{eq-eqb, le-leb, lt-leb, ne_eqb}
 use Rattle.format.specs.Question.{first_no, header_questions}
 use Rattle.format.proofs.Questions.{Past, no_to, yes_to}
 use Rattle.header.specs.Refusal.{refusal_of}

@@ -1,5 +1,4 @@
 -- `header::key_count` meets its contract. Assumes nothing.
-use borrow.Author.Rules.{rules}
 use Rattle.format.specs.Image.{key_count}
 use Rattle.header.proofs.key_count.Goals as goal
 

@@ -2,7 +2,6 @@
 use mathlib.Core.Path.{sym, ◌∙◌}
 use native.Mathlib.Omega.{arith}
 use Rattle.format.proofs.Checked.{lift-number, no_lift}
-use borrow.Author.Rules.{rules}
 use Rattle.header.proofs.lift.Goals as goal
 
 pub returns-then-version-eq1 : goal.returns-then-version-eq1

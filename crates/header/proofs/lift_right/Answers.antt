@@ -1,8 +1,6 @@
 -- `header::lift_right` meets its contract. Assumes nothing.
 use mathlib.Core.Path.{◌∙◌}
-use borrow.Author.Tests.{eqb-true, eqb-false}
 use Rattle.header.proofs.Asked.{lift_1, lift_other}
-use borrow.Author.Rules.{rules}
 use Rattle.header.proofs.lift_right.Goals as goal
 
 pub returns-then-names_none : goal.returns-then-names_none

@@ -3,7 +3,6 @@ use mathlib.Core.Path.{sym, ◌∙◌}
 use borrow.Author.Tests.{lt-ltb, le-ltb}
 use Rattle.format.specs.Question.{out_links_due}
 use Rattle.format.proofs.Checked.{cond_yes, cond_no}
-use borrow.Author.Rules.{rules}
 use Rattle.header.proofs.links_due.Goals as goal
 
 pub returns-then-band-lt8 : goal.returns-then-band-lt8

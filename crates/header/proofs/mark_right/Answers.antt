@@ -4,7 +4,6 @@ use borrow.Author.Tests.{eq-eqb, ne_eqb}
 use Rattle.format.specs.Seq.{every, numbers_from, up_to}
 use Rattle.format.specs.Header.{mark}
 use Rattle.format.specs.Question.{mark_right}
-use borrow.Author.Rules.{rules}
 use Rattle.header.proofs.mark_right.Goals as goal
 
 pub returns-then-image-ne76 : goal.returns-then-image-ne76

@@ -3,7 +3,6 @@ use mathlib.Core.Path.{ap₂}
 use Prim.Native.Nat.{ℕ, ◌+◌, ◌*◌}
 use native.Mathlib.Omega.{arith}
 use Rattle.format.specs.Page.{number_at}
-use borrow.Author.Rules.{rules}
 use Rattle.header.proofs.number.Goals as goal
 
 pub returns : goal.returns

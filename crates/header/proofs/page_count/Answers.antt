@@ -1,5 +1,4 @@
 -- `header::page_count` meets its contract. Assumes nothing.
-use borrow.Author.Rules.{rules}
 use Rattle.format.specs.Image.{page_count}
 use Rattle.header.proofs.page_count.Goals as goal
 

@@ -1,5 +1,4 @@
 -- `header::root_count` meets its contract. Assumes nothing.
-use borrow.Author.Rules.{rules}
 use Rattle.format.specs.Image.{root_count}
 use Rattle.header.proofs.root_count.Goals as goal
 

@@ -2,7 +2,6 @@
 use native.Mathlib.Omega.{arith}
 use Rattle.format.specs.Seq.{numbers_from, total}
 use Rattle.format.specs.Image.{bands}
-use borrow.Author.Rules.{rules}
 use Rattle.header.proofs.total_pages.Goals as goal
 
 pub returns : goal.returns

@@ -1,5 +1,4 @@
 -- `header::version` meets its contract. Assumes nothing.
-use borrow.Author.Rules.{rules}
 use Rattle.format.specs.Image.{version_of}
 use Rattle.header.proofs.version.Goals as goal
 

@@ -3,7 +3,6 @@ use mathlib.Core.Path.{sym, ap, ◌∙◌}
 use Prim.Native.Nat.{ℕ}
 use lib.Dec.{eqb}
 use Rattle.header.proofs.Asked.{known_1, known_other}
-use borrow.Author.Rules.{rules}
 use Rattle.header.proofs.version_known.Goals as goal
 
 pub returns-then-version-eq1 : goal.returns-then-version-eq1

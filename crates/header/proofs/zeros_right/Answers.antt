@@ -1,6 +1,5 @@
 -- `header::zeros_right` meets its contract. Assumes nothing.
 use Rattle.header.proofs.Asked.{zeros_no, zeros_2, zeros_lift, zeros_none}
-use borrow.Author.Rules.{rules}
 use Rattle.header.proofs.zeros_right.Goals as goal
 
 pub returns-then-image-ne0 : goal.returns-then-image-ne0

@@ -1,5 +1,4 @@
 -- `nodes::counts_before` meets its contract: each count is the one before it and the set bits of a word. Assumes nothing.
-use borrow.Author.Rules.{rules}
 use mathlib.Core.Path.{◌≡◌}
 use mathlib.Core.List.{[], ◌∷◌}
 use Prim.Native.Nat.{◌+◌}

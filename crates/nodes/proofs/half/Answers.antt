@@ -1,5 +1,4 @@
 -- `nodes::half` meets its contract. Assumes nothing.
-use borrow.Author.Rules.{rules}
 use Rattle.nodes.specs.Words.{half_at}
 use Rattle.nodes.proofs.half.Goals as goal
 

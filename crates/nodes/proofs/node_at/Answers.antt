@@ -1,5 +1,4 @@
 -- `nodes::node_at` meets its contract. Assumes nothing.
-use borrow.Author.Rules.{rules}
 use mathlib.Core.Path.{refl}
 use native.Mathlib.Omega.{arith}
 use Rattle.nodes.specs.Words.{node_in}

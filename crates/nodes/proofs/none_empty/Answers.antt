@@ -2,10 +2,9 @@
 use mathlib.Core.Path.{◌≡◌, sym, ap, ◌∙◌}
 use Prim.Native.Nat.{ℕ, ◌+◌, ◌-◌, ◌*◌, ◌/◌, ◌^◌}
 use native.Mathlib.Omega.{arith}
-use borrow.Author.Rules.{rules}
 use lib.Dec.{eqb}
 use Rattle.nodes.specs.Words.{low_bits, none_empty}
-use Rattle.nodes.proofs.Passing.{Passing, passing_start, passing_next, passing_no, passing_end}
+use Rattle.nodes.proofs.Passing.{passing_start, passing_next, passing_no, passing_end}
 use Rattle.nodes.proofs.none_empty.Goals as goal
 
 pub returns-then-n-gt208 : goal.returns-then-n-gt208

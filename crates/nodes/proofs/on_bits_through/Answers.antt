@@ -1,5 +1,4 @@
 -- `nodes::on_bits_through` meets its contract: the on bits before the node's word, and those of the word through the node. Assumes nothing.
-use borrow.Author.Rules.{rules}
 use mathlib.Core.Path.{ap₂}
 use Prim.Native.Nat.{◌+◌}
 use native.Mathlib.Omega.{arith}

@@ -4,7 +4,6 @@ use borrow.Author.Tests.{lt-ltb, le-ltb}
 use lib.Dec.{eqb}
 use Rattle.format.proofs.Checked.{cond_yes, cond_no}
 use Rattle.nodes.specs.Words.{rest_empty}
-use borrow.Author.Rules.{rules}
 use Rattle.nodes.proofs.rest_empty.Goals as goal
 
 pub returns-then-n-gt208 : goal.returns-then-n-gt208

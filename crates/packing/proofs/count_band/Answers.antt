@@ -1,13 +1,10 @@
 -- `packing::count_band` meets its contract. The invariant is `Counting`, of the prefixes as they were before the first was replaced, and the root of the last read.
 -- Assumes nothing.
-use mathlib.Core.Path.{◌≡◌, refl, sym, ◌∙◌}
-use mathlib.Core.Logic.{⊎_elim}
-use Prim.Native.Nat.{◌-◌, ◌/◌}
+use mathlib.Core.Path.{refl, sym, ◌∙◌}
 use native.Mathlib.Omega.{arith}
-use borrow.Author.Rules.{rules}
-use lib.ListN.{length, set, length-set}
+use lib.ListN.{length-set}
 use Rattle.copying.proofs.Stores.{put_back}
-use Rattle.packing.proofs.Counting.{Counting, count_none, count_start, count_same, count_next, count-done}
+use Rattle.packing.proofs.Counting.{count_none, count_start, count_same, count_next, count-done}
 use Rattle.packing.proofs.count_band.Goals as goal
 use Rattle.packing.proofs.count_band.Goals.{then-root-y, else-root-y}
 
@@ -22,8 +19,8 @@ loop-i-preserved c =
     let inv = c.loop-i.invariant in
     let more = c.loop-i-test.true in
     elim c.if-root-y.branch [
-      then-root-y w ↦ rw (w.keys-is, w.root-is, w.roots-is, w.packing-is, w.size-is, w.more_nodes-size.ensures.0) (count_same _ _ _ _ _ _ _ inv.0 more (sym inv.1 ∙ w.if-root-y.true), w.if-root-y.true)
-    | else-root-y w ↦ rw (w.keys-is, w.root-is, w.roots-is, w.packing-is, w.size-is, w.join-packing.ensures) (count_next _ _ _ _ _ _ _ inv.0 more (λ e. w.if-root-y.false (inv.1 ∙ e)), refl)
+      | then-root-y w ↦ rw (w.keys-is, w.root-is, w.roots-is, w.packing-is, w.size-is, w.more_nodes-size.ensures.0) (count_same _ _ _ _ _ _ _ inv.0 more (sym inv.1 ∙ w.if-root-y.true), w.if-root-y.true)
+      | else-root-y w ↦ rw (w.keys-is, w.root-is, w.roots-is, w.packing-is, w.size-is, w.join-packing.ensures) (count_next _ _ _ _ _ _ _ inv.0 more (λ e. w.if-root-y.false (inv.1 ∙ e)), refl)
     ]
 
 pub shape_of-keys : goal.shape_of-keys

@@ -1,12 +1,8 @@
 -- `packing::count_band` meets its contract. The invariant is `Counting`, of the prefixes as they were before the first was replaced, and the root of the last read.
-use mathlib.Core.Path.{◌≡◌, refl, sym, ◌∙◌}
-use mathlib.Core.Logic.{⊎_elim}
+use mathlib.Core.Path.{◌≡◌}
 use Prim.Native.Nat.{◌-◌, ◌/◌}
-use native.Mathlib.Omega.{arith}
-use borrow.Author.Rules.{rules}
-use lib.ListN.{length, set, length-set}
-use Rattle.copying.proofs.Stores.{put_back}
-use Rattle.packing.proofs.Counting.{Counting, count_none, count_start, count_same, count_next, count-done}
+use lib.ListN.{length, set}
+use Rattle.packing.proofs.Counting.{Counting}
 use Rattle.packing.proofs.count_band.Given as goal
 
 abbrev pub invariant-loop-i : goal.invariant-loop-i

@@ -1,9 +1,5 @@
 -- `packing::is_ascending` meets its contract. The invariant is `Tested`. Assumes nothing.
-use mathlib.Core.Logic.{⊎_elim}
-use Prim.Native.Nat.{◌-◌}
-use borrow.Author.Rules.{rules}
-use lib.ListN.{length}
-use Rattle.packing.proofs.Ascending.{Tested, tested_start, tested_no, tested_next, tested_end}
+use Rattle.packing.proofs.Ascending.{tested_start, tested_no, tested_next, tested_end}
 use Rattle.packing.proofs.is_ascending.Goals as goal
 use Rattle.packing.proofs.is_ascending.Goals.{then-keys-i, else-keys-i}
 
@@ -15,8 +11,8 @@ loop-i-preserved c =
     let inv = c.loop-i.invariant in
     let more = c.loop-i-test.true in
     elim c.if-keys-i.branch [
-      then-keys-i w ↦ rw w.all-is (tested_no _ _ _ inv more w.if-keys-i.true)
-    | else-keys-i w ↦ rw w.all-is (tested_next _ _ _ inv more w.if-keys-i.false)
+      | then-keys-i w ↦ rw w.all-is (tested_no _ _ _ inv more w.if-keys-i.true)
+      | else-keys-i w ↦ rw w.all-is (tested_next _ _ _ inv more w.if-keys-i.false)
     ]
 
 pub returns : goal.returns

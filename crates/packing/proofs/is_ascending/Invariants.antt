@@ -1,9 +1,7 @@
 -- `packing::is_ascending` meets its contract. The invariant is `Tested`. Assumes nothing.
-use mathlib.Core.Logic.{⊎_elim}
 use Prim.Native.Nat.{◌-◌}
-use borrow.Author.Rules.{rules}
 use lib.ListN.{length}
-use Rattle.packing.proofs.Ascending.{Tested, tested_start, tested_no, tested_next, tested_end}
+use Rattle.packing.proofs.Ascending.{Tested}
 use Rattle.packing.proofs.is_ascending.Given as goal
 
 abbrev pub invariant-loop-i : goal.invariant-loop-i

@@ -1,5 +1,4 @@
 -- `packing::join` meets its contract. Assumes nothing.
-use borrow.Author.Rules.{rules}
 use borrow.Author.Tests.{le-leb, lt-leb}
 use Rattle.packing.specs.Run.{joined}
 use Rattle.packing.proofs.join.Goals as goal

@@ -1,6 +1,5 @@
 -- `packing::more_nodes` meets its contract. Assumes nothing.
 use native.Mathlib.Omega.{arith}
-use borrow.Author.Rules.{rules}
 use Rattle.packing.specs.Run.{more_nodes}
 use Rattle.packing.proofs.more_nodes.Goals as goal
 

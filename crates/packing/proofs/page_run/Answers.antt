@@ -1,11 +1,7 @@
 -- `packing::page_run` meets its contract. The invariant is `Scan`. Assumes nothing.
-use mathlib.Core.Logic.{⊎_elim}
-use Prim.Native.Nat.{◌-◌}
 use native.Mathlib.Omega.{arith}
-use borrow.Author.Rules.{rules}
-use lib.ListN.{length}
 use Rattle.format.proofs.Members.{of_ascending}
-use Rattle.packing.proofs.Scan.{Scan, page_first, scan_start, scan_same, scan_next, scan_ends, scan_last}
+use Rattle.packing.proofs.Scan.{page_first, scan_start, scan_same, scan_next, scan_ends, scan_last}
 use Rattle.packing.proofs.page_run.Goals as goal
 use Rattle.packing.proofs.page_run.Goals.{then-x-y, else-x-y+else-used-size-gt240}
 
@@ -20,8 +16,8 @@ loop-i-preserved c =
     let inv = c.loop-i.invariant in
     let more = c.loop-i-test.true in
     elim c.if-x-y.branch [
-      then-x-y w ↦ rw (w.used-is, w.size-is, w.start-is, w.more_nodes-size.ensures.0) (scan_same _ _ _ _ _ _ inv more w.if-x-y.true)
-    | else-x-y+else-used-size-gt240 w ↦ rw (w.used-is, w.size-is, w.start-is) (scan_next _ _ _ _ _ _ inv more w.if-x-y.false w.if-used-size-gt240.false)
+      | then-x-y w ↦ rw (w.used-is, w.size-is, w.start-is, w.more_nodes-size.ensures.0) (scan_same _ _ _ _ _ _ inv more w.if-x-y.true)
+      | else-x-y+else-used-size-gt240 w ↦ rw (w.used-is, w.size-is, w.start-is) (scan_next _ _ _ _ _ _ inv more w.if-x-y.false w.if-used-size-gt240.false)
     ]
 
 pub returns-then-used-size-gt240-2 : goal.returns-then-used-size-gt240-2

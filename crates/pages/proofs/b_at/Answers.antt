@@ -1,6 +1,5 @@
 -- `pages::b_at` meets its contract. Assumes nothing.
 use mathlib.Core.Path.{◌∙◌}
-use borrow.Author.Rules.{rules}
 use Rattle.pages.proofs.Pages.{head_b}
 use Rattle.pages.proofs.b_at.Goals as goal
 

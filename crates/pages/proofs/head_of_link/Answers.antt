@@ -1,7 +1,6 @@
 -- `pages::head_of_link` meets its contract. Assumes nothing.
 use mathlib.Core.Path.{ap₂, ◌∙◌}
 use native.Mathlib.Omega.{arith}
-use borrow.Author.Rules.{rules}
 use Rattle.format.specs.Image.{out_link_count, page_b}
 use Rattle.pages.proofs.Pages.{first_b}
 use Rattle.pages.proofs.Opened.{link_in}

@@ -1,7 +1,6 @@
 -- `pages::head_of_root` meets its contract. Assumes nothing.
 use mathlib.Core.Path.{ap₂, ◌∙◌}
 use native.Mathlib.Omega.{arith}
-use borrow.Author.Rules.{rules}
 use Rattle.format.specs.Image.{page_roots, page_t}
 use Rattle.pages.proofs.Pages.{first_t}
 use Rattle.pages.proofs.Opened.{root_in_lem}

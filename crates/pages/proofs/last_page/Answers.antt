@@ -1,7 +1,6 @@
 -- `pages::last_page` meets its contract. The loop's invariant: the page is `low` or a later one below `high`. Assumes nothing.
-use Prim.Native.Nat.{◌-◌}
 use native.Mathlib.Omega.{arith}
-use Rattle.pages.proofs.Search.{Search, search_start, search_up, search_down, search_end}
+use Rattle.pages.proofs.Search.{search_start, search_up, search_down, search_end}
 use Rattle.pages.proofs.last_page.Goals as goal
 
 pub loop-low-init : goal.loop-low-init

@@ -1,7 +1,6 @@
 -- `pages::last_page` meets its contract. The loop's invariant: the page is `low` or a later one below `high`. Assumes nothing.
 use Prim.Native.Nat.{◌-◌}
-use native.Mathlib.Omega.{arith}
-use Rattle.pages.proofs.Search.{Search, search_start, search_up, search_down, search_end}
+use Rattle.pages.proofs.Search.{Search}
 use Rattle.pages.proofs.last_page.Given as goal
 
 abbrev pub invariant-loop-low : goal.invariant-loop-low

@@ -1,7 +1,6 @@
 -- `pages::next_b` meets its contract. Assumes nothing.
 use mathlib.Core.Path.{◌∙◌}
 use native.Mathlib.Omega.{arith}
-use borrow.Author.Rules.{rules}
 use Rattle.pages.proofs.Pages.{header_long}
 use Rattle.pages.proofs.Opened.{next_b, next_b_last}
 use Rattle.pages.proofs.next_b.Goals as goal

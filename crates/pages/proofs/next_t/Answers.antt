@@ -1,7 +1,6 @@
 -- `pages::next_t` meets its contract. Assumes nothing.
 use mathlib.Core.Path.{◌∙◌}
 use native.Mathlib.Omega.{arith}
-use borrow.Author.Rules.{rules}
 use Rattle.pages.proofs.Pages.{next_t_lem, next_none}
 use Rattle.pages.proofs.next_t.Goals as goal
 

@@ -1,7 +1,6 @@
 -- `pages::page_head` meets its contract. Assumes nothing.
 use mathlib.Core.Path.{refl}
 use native.Mathlib.Omega.{arith}
-use borrow.Author.Rules.{rules}
 use Rattle.pages.proofs.Opened.{number_is, in_image, t_le, roots_are}
 use Rattle.pages.proofs.page_head.Goals as goal
 

@@ -1,7 +1,6 @@
 -- `pages::page_near` meets its contract. Assumes nothing.
 use mathlib.Core.Path.{◌∙◌}
 use native.Mathlib.Omega.{arith}
-use borrow.Author.Rules.{rules}
 use Rattle.pages.proofs.Pages.{t_small}
 use Rattle.pages.proofs.PageWords.{page_small}
 use Rattle.pages.proofs.Heads.{opened_read}

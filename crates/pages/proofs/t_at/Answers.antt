@@ -1,6 +1,5 @@
 -- `pages::t_at` meets its contract. Assumes nothing.
 use mathlib.Core.Path.{◌∙◌}
-use borrow.Author.Rules.{rules}
 use Rattle.pages.proofs.Pages.{head_t}
 use Rattle.pages.proofs.t_at.Goals as goal
 

@@ -1,6 +1,5 @@
 -- `reader::nodes_at` meets its contract. Assumes nothing.
 use native.Mathlib.Omega.{arith}
-use borrow.Author.Rules.{rules}
 use Rattle.reader.proofs.Nodes.{nodes_less}
 use Rattle.reader.proofs.nodes_at.Goals as goal
 

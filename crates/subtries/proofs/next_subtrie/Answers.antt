@@ -17,8 +17,8 @@ standing : (c : Joined-state-e-2) → Standing c.args.image.now c.if-state-e-2.s
 standing c =
     let at : List ℕ → Type 0 = λ l. Standing c.args.image.now l c.args.number c.args.root.0 in
     elim c.if-state-e-2.branch [
-      then-state-e-2 w ↦ subst at (sym w.state-is) w.seek-then-state-e-2.ensures
-    | else-state-e-2 w ↦ subst at (sym w.state-is) (c.requires.4, omega (arith, c.if-state-e.false), omega (arith, w.if-state-e-2.false))
+      | then-state-e-2 w ↦ subst at (sym w.state-is) w.seek-then-state-e-2.ensures
+      | else-state-e-2 w ↦ subst at (sym w.state-is) (c.requires.4, omega (arith, c.if-state-e.false), omega (arith, w.if-state-e-2.false))
     ]
 
 pub advance-requires : goal.advance-requires

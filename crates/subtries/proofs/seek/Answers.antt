@@ -3,7 +3,6 @@ use mathlib.Core.List.{List}
 use mathlib.Core.Path.{◌≡◌, sym, ap, subst, ◌∙◌}
 use Prim.Native.Nat.{ℕ, ◌-◌, ◌*◌, ◌≤◌, ◌<◌}
 use native.Mathlib.Omega.{arith}
-use borrow.Author.Rules.{rules}
 use Rattle.format.specs.Image.{root_count}
 use Rattle.subtries.specs.declared.Spot.{Spot}
 use Rattle.subtries.specs.Spot.{SpotAt, Spots, end_in, root_in, with_spot}

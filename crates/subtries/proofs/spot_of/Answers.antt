@@ -1,7 +1,6 @@
 -- `subtries::spot_of` meets its contract. Assumes nothing.
 use mathlib.Core.Path.{refl}
 use native.Mathlib.Omega.{arith}
-use borrow.Author.Rules.{rules}
 use Rattle.pages.proofs.Pages.{b_small, t_small, page_number_small}
 use Rattle.pages.proofs.PageWords.{page_small}
 use Rattle.subtries.proofs.Subtries.{starts_fit, link_is}

@@ -1,16 +1,15 @@
 -- The proof of the cycle of calls {list_below, open_inside, walk_inside}. The measure is the bands left; the walker's loop ends with the out-links of the
 -- subtrie, the opener's with a subtrie of several out-links or a key.
 -- Assumes nothing.
-use mathlib.Core.Path.{refl, ap, ◌∙◌}
-use Prim.Native.Nat.{ℕ, ◌-◌, ◌*◌, ◌<◌}
+use mathlib.Core.Path.{refl, ap}
+use Prim.Native.Nat.{◌-◌}
 use native.Mathlib.Omega.{arith}
-use lib.ListN.{length}
 use Rattle.walk.specs.Walk.{any_key}
 use Rattle.walk.proofs.Endings.{power_positive}
 use Rattle.walk.proofs.Places.{listed_one}
-use Rattle.walk.proofs.Chains.{Chain, chain_start, chain_end, chain_walking, chain_some, chain_fits, chain_under, chain_listed, chain_key, chain_next, chain_put}
+use Rattle.walk.proofs.Chains.{chain_start, chain_end, chain_walking, chain_some, chain_fits, chain_under, chain_listed, chain_key, chain_next, chain_put}
 use Rattle.walk.proofs.Steps.{members_key, room_one, room_same, root_there}
-use Rattle.walk.proofs.Walked.{Walk, walk_start, walk-rest, walk_first, walk_on, walk_next, walk_end, walked_key, walked_link, walked_on, walked_opening, walked_room}
+use Rattle.walk.proofs.Walked.{walk_start, walk-rest, walk_first, walk_on, walk_next, walk_end, walked_key, walked_link, walked_on, walked_opening, walked_room}
 use Rattle.walk.proofs.+list_below_open_inside_walk_inside.Goals as goal
 
 -- ---- below an out-link

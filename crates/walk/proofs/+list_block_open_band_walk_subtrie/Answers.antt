@@ -2,14 +2,13 @@
 -- subtrie.
 -- Assumes nothing.
 use mathlib.Core.Path.{ap}
-use Prim.Native.Nat.{ℕ, ◌-◌, ◌*◌, ◌<◌}
+use Prim.Native.Nat.{◌-◌}
 use native.Mathlib.Omega.{arith}
 use Rattle.format.specs.Answer.{inside}
-use borrow.Author.Rules.{rules}
 use Rattle.walk.proofs.Endings.{power_positive}
 use Rattle.walk.proofs.Places.{listed_none}
 use Rattle.walk.proofs.Steps.{block_half, block_short, listed_same, members_cut, members_every, members_key, members_nine, members_same, place_apart, place_covers, prefix_fits, room_one, room_same, root_there, walking_start}
-use Rattle.walk.proofs.Walked.{Walk, walk_start, walk-rest, walk_first, walk_on, walk_next, walk_end, walked_link, walked_on, walked_opening, walked_room}
+use Rattle.walk.proofs.Walked.{walk_start, walk-rest, walk_first, walk_on, walk_next, walk_end, walked_link, walked_on, walked_opening, walked_room}
 use Rattle.walk.proofs.+list_block_open_band_walk_subtrie.Goals as goal
 
 -- ---- a block

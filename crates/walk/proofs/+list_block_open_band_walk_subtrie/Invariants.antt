@@ -1,15 +1,9 @@
 -- The proof of the cycle of calls {list_block, open_band, walk_subtrie}. The measure is the bands left; the walker's loop ends with the out-links of the
 -- subtrie.
 -- Assumes nothing.
-use mathlib.Core.Path.{ap}
-use Prim.Native.Nat.{ℕ, ◌-◌, ◌*◌, ◌<◌}
-use native.Mathlib.Omega.{arith}
+use Prim.Native.Nat.{◌-◌, ◌*◌}
 use Rattle.format.specs.Answer.{inside}
-use borrow.Author.Rules.{rules}
-use Rattle.walk.proofs.Endings.{power_positive}
-use Rattle.walk.proofs.Places.{listed_none}
-use Rattle.walk.proofs.Steps.{block_half, block_short, listed_same, members_cut, members_every, members_key, members_nine, members_same, place_apart, place_covers, prefix_fits, room_one, room_same, root_there, walking_start}
-use Rattle.walk.proofs.Walked.{Walk, walk_start, walk-rest, walk_first, walk_on, walk_next, walk_end, walked_link, walked_on, walked_opening, walked_room}
+use Rattle.walk.proofs.Walked.{Walk}
 use Rattle.walk.proofs.+list_block_open_band_walk_subtrie.Given as goal
 
 abbrev pub decreases-list_block : goal.decreases-list_block

@@ -1,6 +1,5 @@
 -- `walk::count_members` meets its contract. Assumes nothing.
 use native.Mathlib.Omega.{arith}
-use borrow.Author.Rules.{rules}
 use Rattle.walk.proofs.Whole.{count_all, image_long, members_few, whole_covers}
 use Rattle.walk.proofs.count_members.Goals as goal
 

@@ -1,6 +1,5 @@
 -- `walk::list_key` meets its contract. Assumes nothing.
 use mathlib.Core.Path.{sym, ◌∙◌}
-use borrow.Author.Rules.{rules}
 use Rattle.format.specs.Seq.{cons_if, select}
 use Rattle.walk.proofs.Places.{listed_none, listed_one}
 use Rattle.walk.proofs.list_key.Goals as goal

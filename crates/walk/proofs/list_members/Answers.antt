@@ -1,7 +1,6 @@
 -- `walk::list_members` meets its contract. Assumes nothing.
 use mathlib.Core.Path.{sym, ap, ◌∙◌}
 use native.Mathlib.Omega.{arith}
-use borrow.Author.Rules.{rules}
 use lib.ListN.{length}
 use Rattle.subtries.proofs.Kept.{no_spots}
 use Rattle.walk.proofs.Places.{listed_none}

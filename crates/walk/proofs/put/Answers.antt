@@ -1,6 +1,5 @@
 -- `walk::put` meets its contract. Assumes nothing.
 use mathlib.Core.Path.{refl, sym}
-use borrow.Author.Rules.{rules}
 use Rattle.walk.proofs.Places.{set_past}
 use Rattle.walk.proofs.put.Goals as goal
 

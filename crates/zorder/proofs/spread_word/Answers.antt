@@ -1,5 +1,4 @@
 -- `zorder::spread_word` meets its contract: two entries of the table, one for each byte. Assumes nothing.
-use borrow.Author.Rules.{rules}
 use mathlib.Core.List.{List}
 use Prim.Native.Nat.{ℕ, ◌/◌, ◌%◌, ◌<◌}
 use native.Mathlib.Omega.{arith}

@@ -1,5 +1,4 @@
 -- `zorder::unweave` meets its contract. Assumes nothing.
-use borrow.Author.Rules.{rules}
 use Rattle.format.specs.Key.{holder_of, slot_of}
 use Rattle.zorder.proofs.unweave.Goals as goal
 

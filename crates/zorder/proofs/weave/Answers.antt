@@ -1,5 +1,4 @@
 -- `zorder::weave` meets its contract: the constant is the table of spreads. Assumes nothing.
-use borrow.Author.Rules.{rules}
 use Rattle.zorder.proofs.Spreads.{spreads, is_spreads}
 use Rattle.zorder.proofs.weave.Goals as goal
 

@@ -1,7 +1,6 @@
 -- `checker::band::band_refusal` meets its contract. The loop's invariant: the pages passed got a yes throughout. Assumes nothing.
-use Prim.Native.Nat.{◌-◌}
 use native.Mathlib.Omega.{arith}
-use Rattle.checker.proofs.Bands.{Turn, turn_start, turn_no, turn_next, turn_13, turn_end}
+use Rattle.checker.proofs.Bands.{turn_start, turn_no, turn_next, turn_13, turn_end}
 use Rattle.checker.proofs.band.band_refusal.Goals as goal
 
 pub loop-i-init : goal.loop-i-init

@@ -1,7 +1,6 @@
 -- `checker::band::bands_refusal` meets its contract. The loop's invariant: the bands passed got a yes throughout. Assumes nothing.
-use Prim.Native.Nat.{◌-◌}
 use native.Mathlib.Omega.{arith}
-use Rattle.checker.proofs.Images.{Passed, passed_start, passed_no, passed_next, passed_end, band_at_lem}
+use Rattle.checker.proofs.Images.{passed_start, passed_no, passed_next, passed_end, band_at_lem}
 use Rattle.checker.proofs.band.bands_refusal.Goals as goal
 
 pub loop-passed-init : goal.loop-passed-init

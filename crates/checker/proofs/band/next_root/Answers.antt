@@ -1,5 +1,4 @@
 -- `checker::band::next_root` meets its contract. Assumes nothing.
-use borrow.Author.Rules.{rules}
 use mathlib.Core.Path.{sym, ◌∙◌}
 use borrow.Author.Tests.{lt-ltb, le-ltb}
 use Rattle.format.proofs.Checked.{cond_yes, cond_no}

@@ -4,7 +4,6 @@ use mathlib.Core.List.{List}
 use Prim.Native.Nat.{ℕ}
 use native.Mathlib.Omega.{arith}
 use borrow.Author.Rules.{rules}
-use borrow.Author.Tests.{not-true, not-false}
 use Rattle.nodes.specs.Words.{ones_before}
 use Rattle.checker.specs.Paged.{third_in}
 use Rattle.checker.proofs.Shapes.{Third, Fourth, Ended, levels, fourth, ended, over_fourth, over_end, empty_found, rest_found, refused_page, links_few, shaped}

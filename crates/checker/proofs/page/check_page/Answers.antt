@@ -1,5 +1,4 @@
 -- `checker::page::check_page` meets its contract: at each return the questions before got a yes. Assumes nothing.
-use borrow.Author.Rules.{rules}
 use Rattle.checker.proofs.Shapes.{refused_page}
 use Rattle.checker.proofs.Pages.{wrong_t, wrong_b, no_roots, roots_yes, by_shape}
 use Rattle.checker.proofs.page.check_page.Goals as goal

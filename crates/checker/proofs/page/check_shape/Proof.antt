@@ -3,7 +3,6 @@ use mathlib.Core.Path.{◌≡◌, ap, subst, sym, ◌∙◌}
 use mathlib.Core.List.{List}
 use Prim.Native.Nat.{ℕ}
 use borrow.Author.Rules.{rules}
-use borrow.Author.Tests.{not-false, not-true}
 use Rattle.format.specs.Seq.{All}
 use Rattle.format.specs.Page.{levels_in, pairs_at}
 use Rattle.format.specs.Question.{Yes, no_room, node_questions}

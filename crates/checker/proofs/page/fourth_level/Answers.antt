@@ -1,7 +1,6 @@
 -- `checker::page::fourth_level` meets its contract. Assumes nothing.
 use mathlib.Core.Path.{ap, ◌∙◌}
 use Prim.Native.Nat.{◌+◌}
-use borrow.Author.Rules.{rules}
 use Rattle.nodes.specs.Words.{ones_before}
 use Rattle.checker.proofs.page.fourth_level.Goals as goal
 

@@ -1,5 +1,4 @@
 -- `checker::page::page_needed` meets its contract. Assumes nothing.
-use borrow.Author.Rules.{rules}
 use Rattle.format.proofs.NodeQuestions.{nodes_of_lem}
 use Rattle.checker.proofs.First.{room_full, room_told}
 use Rattle.checker.proofs.page.page_needed.Goals as goal

@@ -2,10 +2,8 @@
 -- Assumes nothing.
 use mathlib.Core.Path.{sym, ◌∙◌}
 use native.Mathlib.Omega.{arith}
-use borrow.Author.Rules.{rules}
-use Rattle.reader.specs.Page.{NodesIn}
 use Rattle.reader.proofs.Nodes.{nodes_less, nodes_top, nodes_next}
-use Rattle.subtries.proofs.Reading.{Reading, bit_times, reading_start, reading_small, reading_next, reading_place, reading_room, reading_end}
+use Rattle.subtries.proofs.Reading.{bit_times, reading_start, reading_small, reading_next, reading_place, reading_room, reading_end}
 use Rattle.subtries.proofs.level.next_level.Goals as goal
 
 pub loop-left-init : goal.loop-left-init

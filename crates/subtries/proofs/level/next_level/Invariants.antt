@@ -1,10 +1,6 @@
 -- `subtries::level::next_level` meets its contract. The loop's invariant: what the bits passed have given, and the word starts with the next node.
-use mathlib.Core.Path.{sym, ◌∙◌}
-use native.Mathlib.Omega.{arith}
-use borrow.Author.Rules.{rules}
 use Rattle.reader.specs.Page.{NodesIn}
-use Rattle.reader.proofs.Nodes.{nodes_less, nodes_top, nodes_next}
-use Rattle.subtries.proofs.Reading.{Reading, bit_times, reading_start, reading_small, reading_next, reading_place, reading_room, reading_end}
+use Rattle.subtries.proofs.Reading.{Reading}
 use Rattle.subtries.proofs.level.next_level.Given as goal
 
 abbrev pub invariant-loop-left : goal.invariant-loop-left

@@ -1,7 +1,6 @@
 -- `subtries::level::node` meets its contract. Assumes nothing.
 use mathlib.Core.Path.{◌∙◌}
 use native.Mathlib.Omega.{arith}
-use borrow.Author.Rules.{rules}
 use Rattle.reader.proofs.Nodes.{nodes_top}
 use Rattle.subtries.proofs.level.node.Goals as goal
 

@@ -1,6 +1,5 @@
 -- `subtries::level::on_bits` meets its contract. Assumes nothing.
 use native.Mathlib.Omega.{arith}
-use borrow.Author.Rules.{rules}
 use Rattle.subtries.proofs.OnBits.{ones_node}
 use Rattle.subtries.proofs.level.on_bits.Goals as goal
 

@@ -1,7 +1,6 @@
 -- `subtries::skip::skip` meets its contract. Assumes nothing.
 use mathlib.Core.Path.{refl}
 use native.Mathlib.Omega.{arith}
-use borrow.Author.Rules.{rules}
 use Rattle.subtries.proofs.Skips.{fits₀, fits₁, fits₂, fits₃, spot_later}
 use Rattle.subtries.proofs.Spots.{bytes_fit, link_small, part_is, part_length, start_fits}
 use Rattle.subtries.proofs.skip.skip.Goals as goal

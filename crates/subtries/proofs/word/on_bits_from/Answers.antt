@@ -1,9 +1,8 @@
 -- `subtries::word::on_bits_from` meets its contract. The loop's invariant: the on bits passed, and those of the nodes left, are all. Assumes nothing.
 use native.Mathlib.Nat.{zero-add}
 use native.Mathlib.Omega.{arith}
-use borrow.Author.Rules.{rules}
 use Rattle.subtries.specs.OnBits.{on_bits_from}
-use Rattle.subtries.proofs.OnBits.{Counting, counting_small, counting_next, counting_end}
+use Rattle.subtries.proofs.OnBits.{counting_small, counting_next, counting_end}
 use Rattle.subtries.proofs.word.on_bits_from.Goals as goal
 
 pub loop-left-init : goal.loop-left-init

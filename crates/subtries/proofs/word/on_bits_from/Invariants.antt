@@ -1,9 +1,5 @@
 -- `subtries::word::on_bits_from` meets its contract. The loop's invariant: the on bits passed, and those of the nodes left, are all. Assumes nothing.
-use native.Mathlib.Nat.{zero-add}
-use native.Mathlib.Omega.{arith}
-use borrow.Author.Rules.{rules}
-use Rattle.subtries.specs.OnBits.{on_bits_from}
-use Rattle.subtries.proofs.OnBits.{Counting, counting_small, counting_next, counting_end}
+use Rattle.subtries.proofs.OnBits.{Counting}
 use Rattle.subtries.proofs.word.on_bits_from.Given as goal
 
 abbrev pub invariant-loop-left : goal.invariant-loop-left

@@ -1,7 +1,6 @@
 -- `walk::block::contains` meets its contract. Assumes nothing.
 use mathlib.Core.Path.{sym}
 use native.Mathlib.Omega.{arith}
-use borrow.Author.Rules.{rules}
 use Rattle.format.specs.Key.{holder_of, slot_of}
 use Rattle.format.proofs.Cells.{before_range, after_range}
 use Rattle.walk.proofs.Placing.{no_holder, no_slot, last_test}

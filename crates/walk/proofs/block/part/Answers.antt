@@ -1,7 +1,6 @@
 -- `walk::block::part` meets its contract. Assumes nothing.
 use mathlib.Core.Path.{refl}
 use native.Mathlib.Omega.{arith}
-use borrow.Author.Rules.{rules}
 use Rattle.format.proofs.Keys.{holder_of_small, slot_of_small}
 use Rattle.walk.proofs.Blocks.{part_holder, part_slot}
 use Rattle.walk.proofs.block.part.Goals as goal

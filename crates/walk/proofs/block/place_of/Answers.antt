@@ -1,6 +1,5 @@
 -- `walk::block::place_of` meets its contract. Assumes nothing.
 use native.Mathlib.Omega.{arith}
-use borrow.Author.Rules.{rules}
 use Rattle.walk.proofs.Placing.{one_some, holder_fits, slot_fits, apart_by_holder, apart_by_slot, by_slot}
 use Rattle.walk.proofs.block.place_of.Goals as goal
 

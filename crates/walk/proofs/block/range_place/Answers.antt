@@ -1,6 +1,5 @@
 -- `walk::block::range_place` meets its contract. Assumes nothing.
 use mathlib.Core.Logic.{inl, inr}
-use borrow.Author.Rules.{rules}
 use Rattle.walk.proofs.block.range_place.Goals as goal
 
 pub returns-then-last-low : goal.returns-then-last-low
