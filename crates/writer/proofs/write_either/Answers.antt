@@ -10,15 +10,15 @@ use Rattle.writer.proofs.write_either.Goals as goal
 
 pub returns-then-lift-gt999 : goal.returns-then-lift-gt999
 unfolding either_question
-returns-then-lift-gt999 c = no_35 _ _ _ _ (lt-leb _ 999 c.if-lift-gt999.true)
+returns-then-lift-gt999 c = no_35 _ _ _ _ (lt-leb c.args.lift 999 (omega arith))
 
 pub returns-then-keys-gt4096 : goal.returns-then-keys-gt4096
 unfolding either_question
-returns-then-keys-gt4096 c = asked_35 yes_to_35 _ _ _ _ _ _ refl (le-leb _ 999 c.if-lift-gt999.false) (too_many _ _ _ c.if-keys-gt4096.true)
+returns-then-keys-gt4096 c = asked_35 yes_to_35 _ _ _ _ _ _ refl (le-leb c.args.lift 999 (omega arith)) (too_many _ _ _ (omega arith))
 
 pub overflow_cast-lift : goal.overflow_cast-lift
-overflow_cast-lift c = omega (arith, c.if-lift-gt999.false)
+overflow_cast-lift c = omega arith
 
 pub returns : goal.returns
 unfolding either_question
-returns c = asked_35 yes_to_35 _ _ _ _ _ _ refl (le-leb _ 999 c.if-lift-gt999.false) c.write_over.ensures.0
+returns c = asked_35 yes_to_35 _ _ _ _ _ _ refl (le-leb c.args.lift 999 (omega arith)) c.write_over.ensures.0

@@ -12,11 +12,11 @@ pub returns-then-not-is_lift : goal.returns-then-not-is_lift
 returns-then-not-is_lift c = no_lift (sym c.is_lift.ensures ∙ c.if-not-is_lift.true) c.refused.ensures refl
 
 pub returns-then-n-gt4096 : goal.returns-then-n-gt4096
-returns-then-n-gt4096 c = too_many (sym c.is_lift.ensures ∙ c.if-not-is_lift.false) c.if-n-gt4096.true c.refused-then-n-gt4096.ensures refl
+returns-then-n-gt4096 c = too_many (sym c.is_lift.ensures ∙ c.if-not-is_lift.false) (omega arith) c.refused-then-n-gt4096.ensures refl
 
 pub overflow_cast-lift-2 : goal.overflow_cast-lift-2
 overflow_cast-lift-2 c = omega (arith, lift_range _ (sym c.is_lift.ensures ∙ c.if-not-is_lift.false))
 
 pub returns : goal.returns
 returns c =
-    first_planned _ _ _ _ _ (sym c.is_lift.ensures ∙ c.if-not-is_lift.false) (omega (arith, c.requires, c.if-n-gt4096.false)) c.if-n-gt4096.false c.plan_keys.auto.keys c.plan_keys.ensures
+    first_planned _ _ _ _ _ (sym c.is_lift.ensures ∙ c.if-not-is_lift.false) (omega arith) (omega arith) c.plan_keys.auto.keys c.plan_keys.ensures
