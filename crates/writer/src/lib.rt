@@ -79,8 +79,7 @@ pub fn write_keys(keys: &[u32], lift: u32, out: &mut [u8]) -> Written
     write_either(keys, lift, out)
 }
 
-// The job: writes the image of the list for a lift, in version 2, into the first bytes of the buffer, and returns its length. It and
-// `write_some` are proved by hand, as list::weave_first is: the borrow checker covers no function over a lent slice of structs.
+// The job: writes the image of the list for a lift, in version 2, into the first bytes of the buffer, and returns its length.
 pub fn write(list: &[Admission], lift: u32, out: &mut [u8]) -> Written
     ensures { WrittenList lift list.now out.old result out.new }
 {
@@ -101,7 +100,7 @@ fn write_some(list: [Admission; 4096], n: usize, lift: u32, out: &mut [u8]) -> W
     write(&list[..n], lift, out)
 }
 
-// The same for a caller that owns the array, and needs no proof by hand: an `n` above 4,096 gets a no at 35 or 14.
+// The same for a caller that owns the array: an `n` above 4,096 gets a no at 35 or 14.
 pub fn write_first(list: [Admission; 4096], n: usize, lift: u32, out: &mut [u8]) -> Written
     ensures { WrittenFirst lift list n out.old result out.new }
 {

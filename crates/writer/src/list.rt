@@ -1,5 +1,5 @@
-// The lent list of admissions. The borrow checker covers no function over a lent slice of structs, so `weave_first` is proved by hand, and
-// thin: it weaves each admission into its key, and covered functions plan and write the keys.
+// The lent list of admissions. `weave_first` is thin: it weaves each admission into its key, and the other functions plan and write the
+// keys.
 ghost use Rattle.std.specs.Prelude.{◌≡◌, ◌≤◌, length};
 ghost use Rattle.format.specs.Key.{key_of};
 ghost use Rattle.zorder.specs.Table.{IsSpreads};

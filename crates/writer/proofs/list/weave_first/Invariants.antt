@@ -1,0 +1,15 @@
+-- `writer::list::weave_first` meets its contract. The invariant: the first i keys are woven, and no more are to be than there are
+-- places and admissions.
+use mathlib.Core.Path.{◌≡◌}
+use Prim.Native.Nat.{◌-◌, ◌≤◌}
+use lib.ListN.{length}
+use Rattle.zorder.specs.Table.{IsSpreads}
+use Rattle.writer.specs.List.{fitting}
+use Rattle.writer.proofs.Weaving.{woven_to}
+use Rattle.writer.proofs.list.weave_first.Given as goal
+
+abbrev pub invariant-loop-i : goal.invariant-loop-i
+invariant-loop-i l = record { reached : l.i ≤ l.end; woven : l.keys ≡ woven_to l.i l.list l.initial.keys }
+
+abbrev pub decreases-loop-i : goal.decreases-loop-i
+decreases-loop-i l = l.end - l.i
