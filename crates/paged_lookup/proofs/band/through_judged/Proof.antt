@@ -11,68 +11,64 @@ use Rattle.paged_lookup.proofs.band.through_judged.Statement.{statement}
 use Rattle.paged_lookup.proofs.band.through_judged.Tie as tie
 
 -- where a page has been found
-abbrev start : tie.Else1 → tie.Start
+abbrev start : tie.Else-upto-eq0 → tie.Start
 start c = c.before.before.before.before
 
-abbrev index : tie.Else1 → ℕ
-index c = c.before.pages-upto.result - 1
+abbrev index : tie.Else-upto-eq0 → ℕ
+index c = c.pages_upto-upto.result - 1
 
-fits : (c : tie.Else1) → (64 * ((start c).args.first + c.before.before.page-count.result) ≤ length (start c).args.image.now) × (index c < c.before.before.page-count.result)
+fits : (c : tie.Else-upto-eq0) → (64 * ((start c).args.first + c.page_count-pages.result) ≤ length (start c).args.image.now) × (index c < c.page_count-pages.result)
 fits c =
     let p = (start c).requires.0 in
-    let e = c.before.before.page-count.ensures.0 in
-    (band_fits p e, index_in p e c.before.pages-upto.ensures c.if1.false)
+    let e = c.page_count-pages.ensures.0 in
+    (band_fits p e, index_in p e c.pages_upto-upto.ensures c.if-upto-eq0.false)
 
 -- where the page's T and the next have been read
-abbrev e : tie.After-next-root → tie.Else1
+abbrev e : tie.After-next_root-next → tie.Else-upto-eq0
 e c = c.before.before.before
 
-page : (c : tie.After-next-root)
-    → PageFound (start (e c)).args.image.now (start (e c)).args.band (start (e c)).args.root.0 (index (e c)) ((start (e c)).args.first + index (e c)) c.before.before.number.result c.next-root.result.0
+page : (c : tie.After-next_root-next)
+    → PageFound (start (e c)).args.image.now (start (e c)).args.band (start (e c)).args.root.0 (index (e c)) ((start (e c)).args.first + index (e c)) c.number.result c.next_root-next.result.0
 page c =
-    found (start (e c)).requires.0 (e c).before.before.page-count.ensures.0 (e c).before.pages-upto.ensures (e c).if1.false refl c.before.before.number.ensures.0 c.before.root-count.ensures.0 c.next-root.ensures
+    found (start (e c)).requires.0 (e c).page_count-pages.ensures.0 (e c).pages_upto-upto.ensures (e c).if-upto-eq0.false refl c.number.ensures.0 c.root_count.ensures.0 c.next_root-next.ensures
 
 -- and 9 got a yes
-abbrev n : tie.Else2 → tie.After-next-root
+abbrev n : tie.Else-roots-eq0 → tie.After-next_root-next
 n c = c.before.before
 
-roots : (c : tie.Else2) → RootsYes (n c).before.before.number.result (n c).next-root.result.0 c.before.roots-from.result
-roots c = roots_yes _ _ c.before.roots-from.ensures c.if2.false
+roots : (c : tie.Else-roots-eq0) → RootsYes (n c).number.result (n c).next_root-next.result.0 c.roots_from-roots.result
+roots c = roots_yes _ _ c.roots_from-roots.ensures c.if-roots-eq0.false
 
-inner : (c : tie.Else2)
-    → ((n c).before.before.number.result ≤ (start (e (n c))).args.root.0) × ((start (e (n c))).args.root.0 - (n c).before.before.number.result < (n c).next-root.result.0 - (n c).before.before.number.result)
+inner : (c : tie.Else-roots-eq0)
+    → ((n c).number.result ≤ (start (e (n c))).args.root.0) × ((start (e (n c))).args.root.0 - (n c).number.result < (n c).next_root-next.result.0 - (n c).number.result)
 inner c = root_in_lem (page (n c)) (start (e (n c))).requires.1
 
-returns : tie.Need-returns
+returns : tie.Need-returns-then-upto-eq0
 returns c =
-    let a = c.before.before.before.before.before in
-    step-none a.args.image.now a.args.key a.args.band a.args.on a.args.root.0 _
-    (none_found a.requires.0 c.before.before.before.page-count.ensures.0 c.before.before.pages-upto.ensures c.before.if1.true) c.refused.ensures
+    step-none c.args.image.now c.args.key c.args.band c.args.on c.args.root.0 _
+    (none_found c.requires.0 c.page_count-pages.ensures.0 c.pages_upto-upto.ensures c.if-upto-eq0.true) c.refused.ensures
 
-returns-2 : tie.Need-returns-2
+returns-2 : tie.Need-returns-then-roots-eq0
 returns-2 c =
-    let m = c.before.before.before in
-    let r = c.before.before.roots-from.ensures in
-    step_nine _ _ _ _ _ _ (page m) (roots_no _ _ (sym r ∙ c.before.if2.true)) c.refused2.ensures
+    let r = c.roots_from-roots.ensures in
+    step_nine _ _ _ _ _ _ (page c.before.before.before) (roots_no _ _ (sym r ∙ c.if-roots-eq0.true)) c.refused-then-roots-eq0.ensures
 
-through-page-requires : tie.Need-through-page-requires
+through-page-requires : tie.Need-through_page-way-requires
 through-page-requires c κs =
-    let g = c.before.before in
-    let k = roots g in
-    let f = fits (e (n g)) in
-    (omega arith, k.some, k.few, omega (arith, inner g, k.is), omega (arith, (start (e (n g))).requires.0.hi))
+    let k = roots c.before.before in
+    let f = fits (e (n c.before.before)) in
+    (omega arith, k.some, k.few, omega (arith, inner c.before.before, k.is), omega (arith, (start (e (n c.before.before))).requires.0.hi))
 
-returns-3 : tie.Need-returns-3
+returns-3 : tie.Need-returns
 returns-3 c =
-    let g = c.before.before.before.before in
-    step_left _ _ _ _ _ _ (page (n g)) (roots g).is _ c.before.through-page.ensures c.leave.ensures refl
+    step_left _ _ _ _ _ _ (page (n c.before.before.before.before)) (roots c.before.before.before.before).is _ c.through_page-way.ensures c.leave.ensures refl
 
-pub through-judged-spec : {M : Type 1} → statement M
-through-judged-spec =
+pub through_judged_spec : {M : Type 1} → statement M
+through_judged_spec =
     tie.close
     (tie.spec
     (λ c κs. search rules)
-    (λ c κs. band_fits c.before.before.requires.0 c.page-count.ensures.0)
+    (λ c κs. band_fits c.requires.0 c.page_count-pages.ensures.0)
     (λ c κs. search rules)
     returns
     (λ c. search rules)
