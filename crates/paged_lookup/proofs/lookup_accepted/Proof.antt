@@ -12,10 +12,15 @@ yes_7 : (s : tie.Start) → HeaderYes s.args.image.now
 yes_7 s = header-yes _ (facts _ s.requires).all_yes
 
 walk-requires : tie.Need-walk-requires
-walk-requires c κs = let s = c.before.before in (yes_7 s, λ _. s.requires)
+walk-requires c κs = (yes_7 c.before.before, λ _. c.requires)
 
 returns : tie.Need-returns
-returns c = lookup-done _ _ _ (yes_7 c.before.before.before) c.before.weave.ensures _ _ c.walk.ensures
+returns c = lookup-done _ _ _ (yes_7 c.before.before.before) c.weave.ensures _ _ c.walk.ensures
 
-pub lookup-accepted-spec : {M : Type 1} → statement M
-lookup-accepted-spec = tie.close (tie.spec (λ c κs. search rules) walk-requires returns)
+pub lookup_accepted_spec : {M : Type 1} → statement M
+lookup_accepted_spec =
+    tie.close
+    (tie.spec
+    (λ c κs. search rules)
+    walk-requires
+    returns)

@@ -9,37 +9,35 @@ use Rattle.climb.proofs.BitPlaces.{none_first, left_few, bit-from, bit_in_lem, b
 use Rattle.climb.proofs.select.on_bit.Statement.{statement}
 use Rattle.climb.proofs.select.on_bit.Tie as tie
 
-word-of-requires : tie.Need-word-of-requires
+word-of-requires : tie.Need-word_of-j-requires
 word-of-requires c κs = (omega (arith, none_first c.args.word.now c.requires.0), c.requires.2)
 
 select-requires : tie.Need-select-requires
 select-requires c κs =
-    let j = c.before.before.before.word_of.ensures in
-    omega (arith, c.before.wide.ensures.0, left_few c.before.before.before.before.args.word.now c.before.before.before.before.requires.0 _ j.1 j.2)
+    let j = c.word_of-j.ensures in
+    omega (arith, c.wide-passed.ensures.0, left_few c.args.word.now c.requires.0 _ j.1 j.2)
 
 -- the bit in its word
-selected : (c : tie.After-select) → let a = c.before.before.before.before.before.args in let j = c.before.before.before.before.word_of.result in
+selected : (c : tie.After-select) → let a = c.args in let j = c.word_of-j.result in
     Selected (get_or a.word.now j 0) (a.number - get_or a.before.now j 0) c.select.result
 selected c =
-    let a = c.before.before.before.before.before.args in
-    subst (λ n. Selected (get_or a.word.now c.before.before.before.before.word_of.result 0) (a.number - n) c.select.result) c.before.before.wide.ensures.0 c.select.ensures
+    let a = c.args in
+    subst (λ n. Selected (get_or a.word.now c.word_of-j.result 0) (a.number - n) c.select.result) c.wide-passed.ensures.0 c.select.ensures
 
-sub-result : tie.Need-overflow-sub-result
+sub-result : tie.Need-overflow_sub-result
 sub-result c =
-    let a = c.before.before.before.before.before in
-    let j = c.before.before.before.before.word_of.ensures in
-    bit-from a.args.word.now a.args.before.now a.requires.1 j.0 j.1 (selected c)
+    let j = c.word_of-j.ensures in
+    bit-from c.args.word.now c.args.before.now c.requires.1 j.0 j.1 (selected c)
 
 returns : tie.Need-returns
 returns c =
-    let a = c.before.before.before.before.before in
-    let j = c.before.before.before.before.word_of.ensures in (
-      bit_in_lem a.args.word.now a.args.before.now a.requires.1 j.0 j.1 (selected c),
-      bit_side a.args.word.now a.args.before.now a.requires.1 j.0 j.1 (selected c),
+    let j = c.word_of-j.ensures in (
+      bit_in_lem c.args.word.now c.args.before.now c.requires.1 j.0 j.1 (selected c),
+      bit_side c.args.word.now c.args.before.now c.requires.1 j.0 j.1 (selected c),
     )
 
-pub on-bit-spec : {M : Type 1} → statement M
-on-bit-spec =
+pub on_bit_spec : {M : Type 1} → statement M
+on_bit_spec =
     tie.close
     (tie.spec
     word-of-requires

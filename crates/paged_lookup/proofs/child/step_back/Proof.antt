@@ -11,5 +11,10 @@ use Rattle.paged_lookup.proofs.child.step_back.Tie as tie
 small : (s : tie.Start) → (1 - s.args.side) * (s.args.node % 2) ≤ 1
 small s = counted_small (1 - s.args.side) (s.args.node % 2) (omega arith) (omega arith)
 
-pub step-back-spec : {M : Type 1} → statement M
-step-back-spec = tie.close (tie.spec (λ c. search rules) (λ c. omega (arith, small c)) (λ c. (back_is c.args.node c.args.side c.requires, small c)))
+pub step_back_spec : {M : Type 1} → statement M
+step_back_spec =
+    tie.close
+    (tie.spec
+    (λ c. search rules)
+    (λ c. omega (arith, small c))
+    (λ c. (back_is c.args.node c.args.side c.requires, small c)))

@@ -12,62 +12,56 @@ use Rattle.paged_lookup.proofs.page.through_page.Statement.{statement}
 use Rattle.paged_lookup.proofs.page.through_page.Tie as tie
 
 -- the page's bytes and place, and its words where they have been gathered
-abbrev img : tie.After-gather → List ℕ
-img c = c.before.before.args.image.now
+abbrev img : tie.After-gather-words → List ℕ
+img c = c.args.image.now
 
-abbrev at : tie.After-gather → ℕ
-at c = c.before.before.args.at
+abbrev at : tie.After-gather-words → ℕ
+at c = c.args.at
 
-gathered : (c : tie.After-gather) → Gathered c.gather.result.word c.gather.result.before
-gathered c = gathered_from (img c) (bytes_of (img c) (λ i. (c.before.shared-slice-known.given i).fits)) (at c) c.before.before.requires.0 c.gather.ensures
+gathered : (c : tie.After-gather-words) → Gathered c.gather-words.result.word c.gather-words.result.before
+gathered c = gathered_from (img c) (bytes_of (img c) (λ i. (c.shared_slice_known-1.given i).fits)) (at c) c.requires.0 c.gather-words.ensures
 
-pairs : (c : tie.After-gather) → pairs_in c.gather.result.word ≡ pairs_at (img c) (at c)
-pairs c = pairs_are (img c) (bytes_of (img c) (λ i. (c.before.shared-slice-known.given i).fits)) (at c) c.before.before.requires.0 c.gather.result c.gather.ensures
+pairs : (c : tie.After-gather-words) → pairs_in c.gather-words.result.word ≡ pairs_at (img c) (at c)
+pairs c = pairs_are (img c) (bytes_of (img c) (λ i. (c.shared_slice_known-1.given i).fits)) (at c) c.requires.0 c.gather-words.result c.gather-words.ensures
 
 -- where the third and the fourth level start
-abbrev g₁ : tie.After-third-level → tie.After-gather
-g₁ c = c.before.before.before.before
+abbrev g₁ : tie.After-third_level-third → tie.After-gather-words
+g₁ c = c.before.before.before
 
-abbrev g₂ : tie.After-fourth-level → tie.After-third-level
-g₂ c = c.before.before.before.before
+abbrev g₂ : tie.After-fourth_level-fourth → tie.After-third_level-third
+g₂ c = c.before.before.before
 
 -- and where the page has been judged
-abbrev g : tie.After-check-nodes → tie.After-gather
-g c = g₁ (g₂ c.before.before.before.before)
+abbrev g : tie.After-check_nodes-shape → tie.After-gather-words
+g c = g₁ (g₂ c.before.before.before)
 
-third-level-requires : tie.Need-third-level-requires
-third-level-requires c κs = let g = c.before.before.before in (gathered g, g.before.before.requires.1, g.before.before.requires.2)
+third-level-requires : tie.Need-third_level-third-requires
+third-level-requires c κs = (gathered c.before.before, c.requires.1, c.requires.2)
 
-fourth-level-requires : tie.Need-fourth-level-requires
-fourth-level-requires c κs = let t = c.before.before.before in ((g₁ t).before.before.requires.2, t.third-level.ensures.0, t.third-level.ensures.1)
+fourth-level-requires : tie.Need-fourth_level-fourth-requires
+fourth-level-requires c κs = ((g₁ c.before.before).requires.2, c.third_level-third.ensures.0, c.third_level-third.ensures.1)
 
-check-nodes-requires : tie.Need-check-nodes-requires
+check-nodes-requires : tie.Need-check_nodes-shape-requires
 check-nodes-requires c κs =
-    let t = c.before.before.before in
-    let g = g₁ (g₂ t) in
-    (gathered g, g.before.before.pre.1, g.before.before.pre.2, t.fourth-level.ensures)
+    let g = g₁ (g₂ c.before.before) in
+    (gathered g, g.requires.1, g.requires.2, c.fourth_level-fourth.ensures)
 
-returns : tie.Need-returns
+returns : tie.Need-returns-then-shape-ne0
 returns c =
-    let n = c.before.before in
-    page_refused (img (g n)) (at (g n)) _ _ (pairs (g n)) n.check-nodes.ensures c.if1.true _
+    page_refused (img (g c.before.before)) (at (g c.before.before)) _ _ (pairs (g c.before.before)) c.check_nodes-shape.ensures c.if-shape-ne0.true _
 
 follow-requires : tie.Need-follow-requires
 follow-requires c κs =
-    let m = c.before.before.before in
-    let n = m.before.before.before in
-    let p = (g n).before.before.requires in
-    let z = m.before.if1.false in
-    (record { page_in = record { gathered = gathered (g n); asked = judged_yes (img (g n)) (at (g n)) _ _ (pairs (g n)) n.check-nodes.ensures z }; nodes_are = (n.check-nodes.ensures.counted z).nodes_are }, p.3, p.4, m.number.ensures.1)
+    let p = (g c.before.before.before.before.before).requires in
+    let z = c.if-shape-ne0.false in
+    (record { page_in = record { gathered = gathered (g c.before.before.before.before.before); asked = judged_yes (img (g c.before.before.before.before.before)) (at (g c.before.before.before.before.before)) _ _ (pairs (g c.before.before.before.before.before)) c.check_nodes-shape.ensures z }; nodes_are = (c.check_nodes-shape.ensures.counted z).nodes_are }, p.3, p.4, c.number.ensures.1)
 
-returns-2 : tie.Need-returns-2
+returns-2 : tie.Need-returns
 returns-2 c =
-    let m = c.before.before.before.before in
-    let n = m.before.before.before in
-    page_way (img (g n)) (at (g n)) _ _ (pairs (g n)) (judged_yes (img (g n)) (at (g n)) _ _ (pairs (g n)) n.check-nodes.ensures m.before.if1.false) _ _ _ _ m.number.ensures.0 c.follow.ensures
+    page_way (img (g c.before.before.before.before.before.before)) (at (g c.before.before.before.before.before.before)) _ _ (pairs (g c.before.before.before.before.before.before)) (judged_yes (img (g c.before.before.before.before.before.before)) (at (g c.before.before.before.before.before.before)) _ _ (pairs (g c.before.before.before.before.before.before)) c.check_nodes-shape.ensures c.if-shape-ne0.false) _ _ _ _ c.number.ensures.0 c.follow.ensures
 
-pub through-page-spec : {M : Type 1} → statement M
-through-page-spec =
+pub through_page_spec : {M : Type 1} → statement M
+through_page_spec =
     tie.close
     (tie.spec
     (λ c κs. search rules)
