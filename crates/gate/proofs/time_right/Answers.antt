@@ -1,0 +1,14 @@
+-- `gate::time_right` meets its contract. Assumes nothing.
+use borrow.Author.Rules.{rules}
+use borrow.Author.Tests.{eq-eqb, ne_eqb}
+use Rattle.format.specs.Question.{is_zero}
+use Rattle.format.specs.Scan.{time_right}
+use Rattle.gate.proofs.time_right.Goals as goal
+
+pub returns-then-last-eq0 : goal.returns-then-last-eq0
+unfolding time_right is_zero
+returns-then-last-eq0 c = rw (eq-eqb _ 0 c.if-last-eq0.true)
+
+pub returns : goal.returns
+unfolding time_right is_zero
+returns c = rw (ne_eqb _ 0 c.if-last-eq0.false)
