@@ -1,4 +1,4 @@
-//! Times every job of the verified library (target/staticlib/libcapi.a) beside a plain hand-written implementation of the same
+//! Times every job of the verified library (crates/capi/out/libcapi.a) beside a plain hand-written implementation of the same
 //! jobs (reference.rs) and beside a sorted array, on four lists of 4,096 admissions. Before anything is timed, the answers and
 //! buffers of both implementations are compared on many sound and damaged images (compare.rs).
 use std::collections::BTreeSet;

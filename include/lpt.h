@@ -3,8 +3,8 @@
  *
  * The library is an archive for x86-64. Two lines build it and a program over it, from the project's root:
  *
- *     rt staticlib capi
- *     cc -Iinclude program.c target/staticlib/libcapi.a -o program
+ *     (cd crates/capi && rt lib)
+ *     cc -Iinclude program.c crates/capi/out/libcapi.a -o program
  *
  * Every function returns an answer of 0 or more, or -n where question n got a no (LPT_NO_* below).
  * On a refusal no lent buffer changes. On an answer only the places named here change.

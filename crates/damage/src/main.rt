@@ -4,6 +4,7 @@
 #![tactic(auto)]
 
 use answers::{lift_of, refusal};
+use std::io::{self, Stdout};
 use testing::{one_more, starts_with_bytes};
 
 // The number for an image that is accepted with the same list and another lift.
@@ -11,7 +12,7 @@ const OTHER_LIFT: usize = 41;
 
 // The lift of the image that is surveyed, and how many images with a bit turned over each question refused; place 0 counts those that are accepted
 // otherwise, and the last those with another lift.
-#[derive(Drop)]
+#[derive(Clone, Copy)]
 pub struct Survey {
     pub lift: u32,
     pub counts: [u32; 42],
@@ -31,15 +32,12 @@ fn with_one(survey: Survey, n: usize) -> Survey {
 }
 
 // Says that the image is accepted with a bit of byte `at` turned over, and prints its list. `bit` is 1 for bit 0, the lowest, and 128 for bit 7.
-fn say_accepted(image: &[u8], at: usize, bit: u8) {
-    io::write_all(1, b"accepted with bit ");
-    io::print_decimal(1, (u32::trailing_zeros(bit as u32) % 8) as u64);
-    io::write_all(1, b" of byte ");
-    io::print_decimal(1, at as u64);
-    io::write_all(1, b" turned over (bit 0 is the lowest):\n");
-    let mut out = [0u8; 73745];
-    let size = report::report(image, &mut out);
-    io::write_all(1, &out[0..size]);
+fn say_accepted(out: Stdout, image: &[u8], at: usize, bit: u8) -> io::Result<()> {
+    let place = u32::trailing_zeros(bit as u32) % 8;
+    println!(out; "accepted with bit {place} of byte {at} turned over (bit 0 is the lowest):")?;
+    let mut text = [0u8; 73745];
+    let size = report::report(image, &mut text);
+    out.write_all(&text[0..size])
 }
 
 // Whether the listing program prints this text of an image.
@@ -64,91 +62,105 @@ fn accepted(image: &[u8], text: &[u8], lift: u32) -> usize {
 }
 
 // The number of an image with a bit of byte `at` turned over; one that is accepted otherwise than for another lift is said.
-fn judge(image: &[u8], text: &[u8], lift: u32, at: usize, bit: u8) -> usize {
+fn judge(
+    out: Stdout,
+    image: &[u8],
+    text: &[u8],
+    lift: u32,
+    at: usize,
+    bit: u8,
+) -> io::Result<usize> {
     let n = refusal(image);
     if n != 0 {
-        return n as usize;
+        return Ok(n as usize);
     }
     let kind = accepted(image, text, lift);
     if kind == 0 {
-        say_accepted(image, at, bit);
+        say_accepted(out, image, at, bit)?;
     }
-    kind
+    Ok(kind)
 }
 
 // The image with one bit of byte `at` turned over, judged; the bit is turned back. `text` is what the listing program prints of the image.
-fn survey_bit(image: &mut [u8], text: &[u8], at: usize, bit: u8, survey: Survey) -> Survey {
+fn survey_bit(
+    out: Stdout,
+    image: &mut [u8],
+    text: &[u8],
+    at: usize,
+    bit: u8,
+    survey: Survey,
+) -> io::Result<Survey> {
     if image.len() <= at {
-        return survey;
+        return Ok(survey);
     }
     let before = image[at];
     image[at] = before ^ bit;
-    let n = judge(image, text, survey.lift, at, bit);
+    let judged = judge(out, image, text, survey.lift, at, bit);
     image[at] = before;
-    with_one(survey, n)
+    Ok(with_one(survey, judged?))
 }
 
 // Each bit of one byte, the highest first.
-fn survey_byte(image: &mut [u8], text: &[u8], at: usize, survey: Survey) -> Survey {
+fn survey_byte(
+    out: Stdout,
+    image: &mut [u8],
+    text: &[u8],
+    at: usize,
+    survey: Survey,
+) -> io::Result<Survey> {
     let mut s = survey;
     let mut bit: u8 = 128;
     while 0 < bit {
-        s = survey_bit(image, text, at, bit, s);
+        s = survey_bit(out, image, text, at, bit, s)?;
         bit /= 2;
     }
-    s
+    Ok(s)
 }
 
 // Each byte from the first to before `end`.
-fn survey_bytes(image: &mut [u8], text: &[u8], end: usize) -> Survey {
+fn survey_bytes(out: Stdout, image: &mut [u8], text: &[u8], end: usize) -> io::Result<Survey> {
     let mut survey = Survey {
         lift: lift_of(image),
         counts: [0u32; 42],
     };
     let mut at: usize = 0;
     while at < end {
-        survey = survey_byte(image, text, at, survey);
+        survey = survey_byte(out, image, text, at, survey)?;
         at += 1;
     }
-    survey
+    Ok(survey)
 }
 
 // A line for a question that refused an image.
-fn say_question(n: usize, count: u32) {
+fn say_question(out: Stdout, n: usize, count: u32) -> io::Result<()> {
     if count == 0 {
-        return;
+        return Ok(());
     }
-    io::write_all(1, b"question ");
-    io::print_decimal(1, n as u64);
-    io::write_all(1, b" refuses ");
-    io::print_decimal(1, count as u64);
-    io::write_all(1, b"\n");
+    println!(out; "question {n} refuses {count}")
 }
 
 // A line for each such question.
-fn say_questions(survey: Survey) {
+fn say_questions(out: Stdout, survey: Survey) -> io::Result<()> {
     let counts = survey.counts;
     let mut n: usize = 1;
     while n < OTHER_LIFT {
-        say_question(n, counts[n]);
+        say_question(out, n, counts[n])?;
         n += 1;
     }
+    Ok(())
 }
 
 // The last two lines.
-fn say_totals(other_lift: u32, otherwise: u32, bytes: usize) {
-    io::print_decimal(1, other_lift as u64);
-    io::write_all(1, b" give the same list for another lift\n");
-    io::print_decimal(1, 8 * (bytes as u64 % 4294967296));
-    io::write_all(1, b" flips, ");
-    io::print_decimal(1, otherwise as u64);
-    io::write_all(1, b" accepted otherwise\n");
+fn say_totals(out: Stdout, other_lift: u32, otherwise: u32, bytes: usize) -> io::Result<()> {
+    println!(out; "{other_lift} give the same list for another lift")?;
+    let flips = 8 * (bytes as u64 % 4294967296);
+    println!(out; "{flips} flips, {otherwise} accepted otherwise")
 }
 
-fn say_survey(survey: Survey, bytes: usize) {
-    say_questions(survey);
+fn say_survey(out: Stdout, survey: Survey, bytes: usize) -> io::Result<()> {
+    say_questions(out, survey)?;
     let counts = survey.counts;
-    say_totals(counts[OTHER_LIFT], counts[0], bytes);
+    say_totals(out, counts[OTHER_LIFT], counts[0], bytes)
 }
 
 // Whether the listing program's text says that the image is refused.
@@ -156,15 +168,16 @@ fn says_refused(text: &[u8]) -> bool {
     starts_with_bytes(text, b"refused ")
 }
 
-fn main() {
+fn main(rt: HostRuntime) -> io::Result<()> {
+    let out = rt.stdout();
     let mut input = [0u8; 65537];
-    let n = io::read_full(0, &mut input);
-    let mut out = [0u8; 73745];
-    let size = report::report_input(&input, n, &mut out);
-    let text = &out[0..size];
+    let n = input::read_full(&mut rt.stdin(), &mut input)?;
+    let mut listing = [0u8; 73745];
+    let size = report::report_input(&input, n, &mut listing);
+    let text = &listing[0..size];
     if says_refused(text) {
-        io::write_all(1, text);
-        return;
+        return out.write_all(text);
     }
-    say_survey(survey_bytes(&mut input[0..n], text, n), n);
+    let survey = survey_bytes(out, &mut input[0..n], text, n)?;
+    say_survey(out, survey, n)
 }

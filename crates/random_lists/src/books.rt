@@ -4,7 +4,7 @@ use copying::load;
 use testing::{Random, put_at, take_out};
 
 // `n` keys in the first places, and `n` + 8 expected records; 77 in the places after these. The image has `length` bytes.
-#[derive(Drop)]
+#[derive(Clone, Copy)]
 pub struct Books {
     pub keys: [u32; 4097],
     pub n: usize,

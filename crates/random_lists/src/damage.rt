@@ -8,7 +8,7 @@ use answers::{length_of, lift_of, member_count, refusal};
 use testing::{Random, starts_with, starts_with_bytes, whole_square};
 
 // Of the sound image: its lift, and the rank of an admission that is looked up in the damaged one.
-#[derive(Drop)]
+#[derive(Clone, Copy)]
 pub struct Sound {
     pub lift: u32,
     pub rank: usize,

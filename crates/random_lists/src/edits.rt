@@ -17,7 +17,7 @@ struct Row {
 }
 
 // An edit, and what it left in its outputs.
-#[derive(Drop)]
+#[derive(Clone, Copy)]
 struct Outputs {
     edited: Written,
     image: [u8; format::MOST_BYTES],

@@ -3,7 +3,7 @@ use crate::plain::{limit, number};
 
 // What a band does with a key: the number of the question that got a no, or 0; whether a bit was off so far; whether all keys are smaller, which ends the walk; the next
 // root, which is a figure past an off bit; and the page read.
-#[derive(Drop)]
+#[derive(Clone, Copy)]
 pub struct Step {
     pub refusal: u8,
     pub is_off: bool,

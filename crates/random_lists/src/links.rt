@@ -2,7 +2,7 @@
 use crate::plain::{add, bit, node_bit};
 
 // How far a page is read: the next node of each level, counted in the page, and the out-links that were counted.
-#[derive(Drop)]
+#[derive(Clone, Copy)]
 pub struct Reading {
     pub next: [usize; 4],
     pub links: usize,

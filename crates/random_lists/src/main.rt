@@ -23,6 +23,7 @@ mod steps;
 mod tally;
 mod trial;
 
+use std::io::{self, Stdout};
 use tally::{LISTS, Tally, expect};
 use testing::Random;
 
@@ -71,29 +72,29 @@ fn list(tally: Tally, keys: &[u32], n: usize, lift: u32, seed: Random) -> Tally 
 }
 
 // Lists of several sizes with keys 1 to `gap` apart.
-fn spaced(name: &[u8], first: u32, gap: u32, state: u64) -> u32 {
+fn spaced(out: Stdout, name: &[u8], first: u32, gap: u32, state: u64) -> io::Result<u32> {
     let mut keys = [0u32; 4096];
     let seed = Random { state };
     let n = testing::spaced(&mut keys, first, gap, seed);
-    sizes(name, &keys, n, seed)
+    sizes(out, name, &keys, n, seed)
 }
 
 // Lists of holders who each have about `each` half-days of a season.
-fn clustered(name: &[u8], season: u32, each: u32, state: u64) -> u32 {
+fn clustered(out: Stdout, name: &[u8], season: u32, each: u32, state: u64) -> io::Result<u32> {
     let mut keys = [0u32; 4096];
     let seed = Random { state };
     let n = testing::clustered(&mut keys, 4096, season, each, seed);
-    sizes(name, &keys, n, seed)
+    sizes(out, name, &keys, n, seed)
 }
 
 // The list of all keys, and of fewer, each for another lift; one in version 1.
-fn sizes(name: &[u8], keys: &[u32], n: usize, seed: Random) -> u32 {
+fn sizes(out: Stdout, name: &[u8], keys: &[u32], n: usize, seed: Random) -> io::Result<u32> {
     let mut t = list(tally::none(), keys, n, 999, seed);
     t = list(t, keys, n / 3, 0, seed);
     t = list(t, keys, n / 50, 258, seed);
     t = list(t, keys, n / 2000, 1, seed);
-    tally::say(t, name);
-    tally::differences(t)
+    tally::say(out, t, name)?;
+    Ok(tally::differences(t))
 }
 
 fn sum(a: u32, b: u32) -> u32 {
@@ -101,37 +102,44 @@ fn sum(a: u32, b: u32) -> u32 {
 }
 
 // The differences of the lists of spaced keys.
-fn spaced_lists() -> u32 {
-    let mut d = spaced(b"every key", 0, 1, 1);
-    d = sum(d, spaced(b"keys 1 to 3 apart", 77, 3, 2));
-    d = sum(d, spaced(b"keys 1 to 40 apart", 4000000000, 40, 3));
-    d = sum(d, spaced(b"keys 1 to 3,000 apart", 5, 3000, 4));
-    sum(d, spaced(b"keys 1 to 2,000,000 apart", 12345, 2000000, 5))
+fn spaced_lists(out: Stdout) -> io::Result<u32> {
+    let mut d = spaced(out, b"every key", 0, 1, 1)?;
+    d = sum(d, spaced(out, b"keys 1 to 3 apart", 77, 3, 2)?);
+    d = sum(d, spaced(out, b"keys 1 to 40 apart", 4000000000, 40, 3)?);
+    d = sum(d, spaced(out, b"keys 1 to 3,000 apart", 5, 3000, 4)?);
+    let wide = spaced(out, b"keys 1 to 2,000,000 apart", 12345, 2000000, 5)?;
+    Ok(sum(d, wide))
 }
 
 // The differences of the lists of holders.
-fn clustered_lists() -> u32 {
-    let mut d = clustered(b"20 half-days of 360 for each holder", 360, 20, 6);
+fn clustered_lists(out: Stdout) -> io::Result<u32> {
+    let mut d = clustered(out, b"20 half-days of 360 for each holder", 360, 20, 6)?;
     d = sum(
         d,
-        clustered(b"2 half-days of 300 for each holder", 300, 2, 7),
+        clustered(out, b"2 half-days of 300 for each holder", 300, 2, 7)?,
     );
-    sum(
-        d,
-        clustered(b"400 half-days of 65,536 for each holder", 65536, 400, 8),
-    )
+    let long = clustered(
+        out,
+        b"400 half-days of 65,536 for each holder",
+        65536,
+        400,
+        8,
+    )?;
+    Ok(sum(d, long))
 }
 
 // The differences of the list without keys.
-fn empty_list() -> u32 {
+fn empty_list(out: Stdout) -> io::Result<u32> {
     let keys = [0u32; 1];
     let t = list(tally::none(), &keys, 0, 500, Random { state: 9 });
-    tally::say(t, b"no keys");
-    tally::differences(t)
+    tally::say(out, t, b"no keys")?;
+    Ok(tally::differences(t))
 }
 
-fn main() {
-    let d = sum(sum(spaced_lists(), clustered_lists()), empty_list());
-    io::print_decimal(1, d as u64);
-    io::write_all(1, b" differences\n");
+fn main(rt: HostRuntime) -> io::Result<()> {
+    let out = rt.stdout();
+    let spaced = spaced_lists(out)?;
+    let clustered = clustered_lists(out)?;
+    let d = sum(sum(spaced, clustered), empty_list(out)?);
+    println!(out; "{d} differences")
 }

@@ -3,7 +3,7 @@ use crate::ask::is_at;
 use testing::{holder_of, one_more};
 
 // A card at the gate.
-#[derive(Drop)]
+#[derive(Clone, Copy)]
 pub struct Card {
     pub holder: u16,
     pub slot: u16,

@@ -1,10 +1,11 @@
 // Counts of what was compared.
 
+use std::io::{self, Stdout};
 use testing::{line_end, one_more};
 
 // Places 1 to 40 count the damaged images by the number that refused them; the places after them have the names below. Places 1 to 40 after
 // EIGHT_REFUSED count the eight-page lookups in damaged images by the number that refused them.
-#[derive(Drop)]
+#[derive(Clone, Copy)]
 pub struct Tally {
     pub counts: [u32; PLACES],
 }
@@ -119,30 +120,29 @@ pub fn differences(tally: Tally) -> u32 {
 }
 
 // A line of a count, with the line of the text that begins at `place`. Returns where the next line begins.
-fn say_count(count: u32, text: &[u8], place: usize) -> usize {
+fn say_count(out: Stdout, count: u32, text: &[u8], place: usize) -> io::Result<usize> {
     if text.len() < place {
-        return place;
+        return Ok(place);
     }
     let end = line_end(text, place);
-    io::write_all(1, b"  ");
-    io::print_decimal(1, count as u64);
-    io::write_all(1, b" ");
-    io::write_all(1, &text[place..end]);
-    end
+    print!(out; "  {count} ")?;
+    out.write_all(&text[place..end])?;
+    Ok(end)
 }
 
 // The counts from place `first` up to `end`, each with its line of the text.
-fn say_counts(tally: Tally, first: usize, end: usize, text: &[u8]) {
+fn say_counts(out: Stdout, tally: Tally, first: usize, end: usize, text: &[u8]) -> io::Result<()> {
     let mut place: usize = 0;
     let mut i = first;
     while i < end {
-        place = say_count(count_of(tally, i), text, place);
+        place = say_count(out, count_of(tally, i), text, place)?;
         i += 1;
     }
+    Ok(())
 }
 
 // The counts from LISTS to OTHER_LIST.
-fn say_lists(tally: Tally) {
+fn say_lists(out: Stdout, tally: Tally) -> io::Result<()> {
     let text: &[u8] = b"\
         lists\n\
         lookups\n\
@@ -165,17 +165,17 @@ fn say_lists(tally: Tally) {
         accepted, with the same list and lift\n\
         accepted, with the same list for another lift\n\
         accepted, with another list\n";
-    say_counts(tally, LISTS, EIGHT_DAMAGED, text);
+    say_counts(out, tally, LISTS, EIGHT_DAMAGED, text)
 }
 
 // The counts of eight-page lookups in damaged images.
-fn say_eight(tally: Tally) {
+fn say_eight(out: Stdout, tally: Tally) -> io::Result<()> {
     let text: &[u8] = b"\
         eight-page lookups in damaged images\n\
         listed\n\
         absent\n\
         refused past an off bit\n";
-    say_counts(tally, EIGHT_DAMAGED, DIFFERENCES, text);
+    say_counts(out, tally, EIGHT_DAMAGED, DIFFERENCES, text)
 }
 
 // How many the question of a number refused, where the table is at places 1 to 40 after `from`.
@@ -183,33 +183,31 @@ fn refusals(tally: Tally, from: usize, n: usize) -> u32 {
     count_of(tally, from % PLACES + n % PLACES)
 }
 
-fn say_refused(n: usize, count: u32) {
+fn say_refused(out: Stdout, n: usize, count: u32) -> io::Result<()> {
     if count == 0 {
-        return;
+        return Ok(());
     }
-    io::write_all(1, b"    question ");
-    io::print_decimal(1, n as u64);
-    io::write_all(1, b" refuses ");
-    io::print_decimal(1, count as u64);
-    io::write_all(1, b"\n");
+    println!(out; "    question {n} refuses {count}")
 }
 
 // The table of refusals.
-fn say_refusals(tally: Tally, from: usize) {
+fn say_refusals(out: Stdout, tally: Tally, from: usize) -> io::Result<()> {
     let mut n: usize = 1;
     while n < 41 {
-        say_refused(n, refusals(tally, from, n));
+        say_refused(out, n, refusals(tally, from, n))?;
         n += 1;
     }
+    Ok(())
 }
 
 // The lines of a shape.
-pub fn say(tally: Tally, name: &[u8]) {
-    io::write_all(1, name);
-    io::write_all(1, b":\n");
-    say_lists(tally);
-    say_refusals(tally, 0);
-    say_eight(tally);
-    say_refusals(tally, EIGHT_REFUSED);
-    say_count(differences(tally), b"differences\n", 0);
+pub fn say(out: Stdout, tally: Tally, name: &[u8]) -> io::Result<()> {
+    out.write_all(name)?;
+    out.write_all(b":\n")?;
+    say_lists(out, tally)?;
+    say_refusals(out, tally, 0)?;
+    say_eight(out, tally)?;
+    say_refusals(out, tally, EIGHT_REFUSED)?;
+    say_count(out, differences(tally), b"differences\n", 0)?;
+    Ok(())
 }

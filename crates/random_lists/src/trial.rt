@@ -18,7 +18,7 @@ const LAST_TIME: u32 = 4294967294;
 const REST: u32 = 10000000;
 
 // A holder's opening, and the lockout after it.
-#[derive(Drop)]
+#[derive(Clone, Copy)]
 pub struct Trial {
     pub holder: u16,
     // The rank that opens, and another of the holder's; the same where there is no other.

@@ -4,21 +4,17 @@
 #![tactic(auto)]
 
 use repair::Repaired;
+use std::io;
 
-fn main() {
+fn main(rt: HostRuntime) -> io::Result<()> {
     let mut input = [0u8; 65537];
-    let n = io::read_full(0, &mut input);
+    let n = input::read_full(&mut rt.stdin(), &mut input)?;
     let mut out = [0u8; 65537];
     match repair::repair(&input[0..n], &mut out) {
         Repaired::Altered(altered) => {
-            io::write_all(1, &out[0..n]);
-            io::write_all(2, b"altered ");
-            io::print_decimal(2, altered as u64);
+            rt.write_all(&out[0..n])?;
+            eprintln!(rt; "altered {altered}")
         }
-        Repaired::Refused(question) => {
-            io::write_all(2, b"refused ");
-            io::print_decimal(2, question as u64);
-        }
+        Repaired::Refused(question) => eprintln!(rt; "refused {question}"),
     }
-    io::write_all(2, b"\n");
 }

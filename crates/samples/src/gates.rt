@@ -13,7 +13,7 @@ pub struct Door {
 }
 
 // A scan: what comes in with the holder, and what is expected. `number` is the rank for refusal 0.
-#[derive(Drop)]
+#[derive(Clone, Copy)]
 pub struct Scan {
     pub lane: u32,
     pub slot: u16,

@@ -25,6 +25,8 @@ mod sold_out;
 mod spread;
 mod still_locked;
 
+use std::io;
+
 // The eight-page lookup.
 fn by_eight_pages(tally: say::Tally) -> say::Tally {
     let mut t = eight_pages::single_pages(tally);
@@ -78,8 +80,8 @@ fn changed_lists(tally: say::Tally) -> say::Tally {
     still_locked::lockouts(t)
 }
 
-fn main() {
-    let mut tally = say::none();
+fn main(rt: HostRuntime) -> io::Result<()> {
+    let mut tally = say::none(rt.stdout());
     tally = plates::dense(tally);
     tally = plates::packings(tally);
     tally = plates::far_apart(tally);
@@ -116,5 +118,5 @@ fn main() {
     tally = lifts::gates(tally);
     tally = lifts::gate_order(tally);
     tally = changed_lists(tally);
-    say::count(tally);
+    say::count(tally)
 }

@@ -7,7 +7,7 @@ use edit::Change;
 use testing::{Random, put_at, take_out};
 
 // A list with records: `n` keys, and `n` + 8 records, of which each is another number.
-#[derive(Drop)]
+#[derive(Clone, Copy)]
 struct Season {
     keys: [u32; 4097],
     n: usize,

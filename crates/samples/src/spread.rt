@@ -6,14 +6,14 @@ use crate::say::{Tally, case};
 use testing::{one_more, starts_with};
 
 // An admission of the holder.
-#[derive(Drop)]
+#[derive(Clone, Copy)]
 struct Place {
     slot: u16,
     rank: u32,
 }
 
 // A holder of a list of `keys` keys, and the record buffer: the first `keys` + 8 elements. The others stay 0.
-#[derive(Drop)]
+#[derive(Clone, Copy)]
 struct Holder {
     number: u16,
     keys: usize,

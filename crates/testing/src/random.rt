@@ -1,7 +1,7 @@
 // A generator of Lehmer's kind: the same seed gives the same numbers on every machine.
 ghost use Rattle.std.specs.Prelude.{◌<◌};
 
-#[derive(Drop)]
+#[derive(Clone, Copy)]
 pub struct Random {
     pub state: u64,
 }

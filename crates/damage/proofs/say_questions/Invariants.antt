@@ -1,0 +1,8 @@
+use Rattle.std.proofs.Common.{◌-◌, ◌≤◌}
+use Rattle.damage.proofs.say_questions.Given as goal
+
+abbrev pub invariant-loop-n : goal.invariant-loop-n
+invariant-loop-n l = l.n ≤ 41
+
+abbrev pub decreases-loop-n : goal.decreases-loop-n
+decreases-loop-n l = 41 - l.n
