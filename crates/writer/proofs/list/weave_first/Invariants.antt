@@ -2,9 +2,6 @@
 -- places and admissions.
 use mathlib.Core.Path.{◌≡◌}
 use Prim.Native.Nat.{◌-◌, ◌≤◌}
-use lib.ListN.{length}
-use Rattle.zorder.specs.Table.{IsSpreads}
-use Rattle.writer.specs.List.{fitting}
 use Rattle.writer.proofs.Weaving.{woven_to}
 use Rattle.writer.proofs.list.weave_first.Given as goal
 
