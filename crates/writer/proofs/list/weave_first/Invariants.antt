@@ -1,5 +1,4 @@
--- `writer::list::weave_first` meets its contract. The invariant: the first i keys are woven, and no more are to be than there are
--- places and admissions.
+-- `writer::list::weave_first` meets its contract. The invariant: the first i keys are woven.
 use mathlib.Core.Path.{◌≡◌}
 use Prim.Native.Nat.{◌-◌, ◌≤◌}
 use Rattle.writer.proofs.Weaving.{woven_to}
