@@ -1,9 +1,6 @@
 -- `image_writer::fill_band` meets its contract. The invariant is `Pages`. Assumes nothing.
-use Prim.Native.Nat.{◌-◌}
 use native.Mathlib.Omega.{arith}
-use borrow.Author.Rules.{rules}
-use lib.ListN.{length}
-use Rattle.image_writer.proofs.Band.{Pages, pages_start, run_room, end_within, end_after, number_within, page_room, t_grows, move_room, pages_next, pages_end}
+use Rattle.image_writer.proofs.Band.{pages_start, run_room, end_within, end_after, number_within, page_room, t_grows, move_room, pages_next, pages_end}
 use Rattle.image_writer.proofs.fill_band.Goals as goal
 
 pub loop-from-init : goal.loop-from-init

@@ -1,9 +1,7 @@
 -- `image_writer::fill_band` meets its contract. The invariant is `Pages`. Assumes nothing.
 use Prim.Native.Nat.{◌-◌}
-use native.Mathlib.Omega.{arith}
-use borrow.Author.Rules.{rules}
 use lib.ListN.{length}
-use Rattle.image_writer.proofs.Band.{Pages, pages_start, run_room, end_within, end_after, number_within, page_room, t_grows, move_room, pages_next, pages_end}
+use Rattle.image_writer.proofs.Band.{Pages}
 use Rattle.image_writer.proofs.fill_band.Given as goal
 
 abbrev pub invariant-loop-from : goal.invariant-loop-from

@@ -1,7 +1,6 @@
 -- `image_writer::fill_bands` meets its contract. The invariant is `Writing`. Assumes nothing.
 use native.Mathlib.Omega.{arith}
-use borrow.Author.Rules.{rules}
-use Rattle.image_writer.proofs.Writing.{Writing, writing_start, count_within, band_room, writing_next, writing_end}
+use Rattle.image_writer.proofs.Writing.{writing_start, count_within, band_room, writing_next, writing_end}
 use Rattle.image_writer.proofs.fill_bands.Goals as goal
 
 pub loop-left-init : goal.loop-left-init

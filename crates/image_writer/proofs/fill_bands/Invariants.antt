@@ -1,7 +1,5 @@
 -- `image_writer::fill_bands` meets its contract. The invariant is `Writing`. Assumes nothing.
-use native.Mathlib.Omega.{arith}
-use borrow.Author.Rules.{rules}
-use Rattle.image_writer.proofs.Writing.{Writing, writing_start, count_within, band_room, writing_next, writing_end}
+use Rattle.image_writer.proofs.Writing.{Writing}
 use Rattle.image_writer.proofs.fill_bands.Given as goal
 
 abbrev pub invariant-loop-left : goal.invariant-loop-left

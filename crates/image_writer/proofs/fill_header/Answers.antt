@@ -1,8 +1,7 @@
 -- `image_writer::fill_header` meets its contract. The invariant is `Headed`. Assumes nothing.
-use Prim.Native.Nat.{◌-◌}
 use native.Mathlib.Omega.{arith}
 use borrow.Author.Rules.{rules}
-use Rattle.image_writer.proofs.Header.{Headed, headed_start, headed_next, headed_end}
+use Rattle.image_writer.proofs.Header.{headed_start, headed_next, headed_end}
 use Rattle.image_writer.proofs.fill_header.Goals as goal
 
 pub loop-i-init : goal.loop-i-init

@@ -1,6 +1,5 @@
 -- `image_writer::fill_start` meets its contract. Assumes nothing.
 use native.Mathlib.Omega.{arith}
-use borrow.Author.Rules.{rules}
 use lib.ListN.{length-set}
 use Rattle.image_writer.proofs.Header.{start_stored}
 use Rattle.image_writer.proofs.fill_start.Goals as goal

@@ -1,7 +1,5 @@
 -- `image_writer::plan_keys` meets its contract. Assumes nothing.
 use mathlib.Core.Path.{refl, sym, ◌∙◌}
-use borrow.Author.Tests.{not-true, not-false}
-use borrow.Author.Rules.{rules}
 use Rattle.image_writer.specs.Planning.{unordered, passed}
 use Rattle.image_writer.proofs.plan_keys.Goals as goal
 

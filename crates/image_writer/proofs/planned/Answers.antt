@@ -6,7 +6,7 @@ use Rattle.image_writer.proofs.Planning.{planning_start, planning_few, part_pref
 use Rattle.image_writer.proofs.planned.Goals as goal
 
 pub loop-b-init : goal.loop-b-init
-loop-b-init c = planning_start _ c.requires (all_of (λ key. key < 2 ^ 32) c.args.keys.now 0 (λ i. (c.slice_known-1.given i).fits))
+loop-b-init c = planning_start _ c.requires (all_of (λ key. key < 2 ^ 32) c.args.keys.now 0 (λ i. (c.type_inv.keys i).fits))
 
 pub count_band-band-requires : goal.count_band-band-requires
 count_band-band-requires c = part_prefixes _ _ _ _ _ _ c.loop-b.invariant

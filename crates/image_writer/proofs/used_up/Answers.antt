@@ -1,6 +1,5 @@
 -- `image_writer::used_up` meets its contract. Assumes nothing.
 use mathlib.Core.Path.{refl}
-use borrow.Author.Rules.{rules}
 use Rattle.image_writer.specs.Planning.{used_up}
 use Rattle.image_writer.proofs.used_up.Goals as goal
 

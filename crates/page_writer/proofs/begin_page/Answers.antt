@@ -1,5 +1,4 @@
 -- `page_writer::begin_page` meets its contract. Assumes nothing.
-use borrow.Author.Rules.{rules}
 use Rattle.page_writer.proofs.Filled.{page_begun}
 use Rattle.page_writer.proofs.begin_page.Goals as goal
 

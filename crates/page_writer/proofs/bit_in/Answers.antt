@@ -1,5 +1,4 @@
 -- `page_writer::bit_in` meets its contract. Assumes nothing.
-use borrow.Author.Rules.{rules}
 use Rattle.page_writer.proofs.Nodes.{bit_place}
 use Rattle.page_writer.proofs.bit_in.Goals as goal
 

@@ -1,7 +1,5 @@
 -- `page_writer::clear` meets its contract. The invariant is `Cleared`. Assumes nothing.
-use Prim.Native.Nat.{◌-◌}
-use borrow.Author.Rules.{rules}
-use Rattle.page_writer.proofs.Bytes.{Cleared, cleared_start, cleared_next, cleared_end}
+use Rattle.page_writer.proofs.Bytes.{cleared_start, cleared_next, cleared_end}
 use Rattle.page_writer.proofs.clear.Goals as goal
 
 pub loop-i-init : goal.loop-i-init

@@ -1,7 +1,6 @@
 -- `page_writer::clear` meets its contract. The invariant is `Cleared`. Assumes nothing.
 use Prim.Native.Nat.{◌-◌}
-use borrow.Author.Rules.{rules}
-use Rattle.page_writer.proofs.Bytes.{Cleared, cleared_start, cleared_next, cleared_end}
+use Rattle.page_writer.proofs.Bytes.{Cleared}
 use Rattle.page_writer.proofs.clear.Given as goal
 
 abbrev pub invariant-loop-i : goal.invariant-loop-i

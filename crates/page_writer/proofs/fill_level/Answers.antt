@@ -2,11 +2,10 @@
 -- Assumes nothing.
 use mathlib.Core.Path.{◌∙◌}
 use native.Mathlib.Omega.{arith}
-use borrow.Author.Rules.{rules}
-use lib.ListN.{set, length-set}
+use lib.ListN.{length-set}
 use Rattle.copying.proofs.Stores.{put_back}
 use Rattle.page_writer.proofs.Levels.{end_some, start_small, node_some, other_small, scanned_end}
-use Rattle.page_writer.proofs.Marks.{Marked, marked_start, twice_small, marked_same, other_parent, marked_other}
+use Rattle.page_writer.proofs.Marks.{marked_start, twice_small, marked_same, other_parent, marked_other}
 use Rattle.page_writer.proofs.fill_level.Goals as goal
 
 pub overflow_sub-node : goal.overflow_sub-node

@@ -1,11 +1,6 @@
 -- `page_writer::fill_level` meets its contract. The invariant is `Marked`, of the prefixes as they were before the last was replaced.
-use mathlib.Core.Path.{◌∙◌}
-use native.Mathlib.Omega.{arith}
-use borrow.Author.Rules.{rules}
-use lib.ListN.{set, length-set}
-use Rattle.copying.proofs.Stores.{put_back}
-use Rattle.page_writer.proofs.Levels.{end_some, start_small, node_some, other_small, scanned_end}
-use Rattle.page_writer.proofs.Marks.{Marked, marked_start, twice_small, marked_same, other_parent, marked_other}
+use lib.ListN.{set}
+use Rattle.page_writer.proofs.Marks.{Marked}
 use Rattle.page_writer.proofs.fill_level.Given as goal
 
 abbrev pub invariant-loop-i : goal.invariant-loop-i

@@ -1,5 +1,4 @@
 -- `page_writer::fill_levels` meets its contract: the levels are reached one after the other. Assumes nothing.
-use borrow.Author.Rules.{rules}
 use Rattle.page_writer.proofs.Pages.{reached_room, reached_next, reached_start, reached_end}
 use Rattle.page_writer.proofs.fill_levels.Goals as goal
 

@@ -1,6 +1,5 @@
 -- `page_writer::fill_page` meets its contract. Assumes nothing.
 use native.Mathlib.Omega.{arith}
-use borrow.Author.Rules.{rules}
 use Rattle.nodes.proofs.Numbers.{bytes_of}
 use Rattle.page_writer.proofs.Filled.{levels_room, first_within, links_more, page_done}
 use Rattle.page_writer.proofs.fill_page.Goals as goal

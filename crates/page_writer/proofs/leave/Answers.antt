@@ -1,6 +1,5 @@
 -- `page_writer::leave` meets its contract. Assumes nothing.
 use mathlib.Core.Path.{refl}
-use borrow.Author.Rules.{rules}
 use borrow.Author.Tests.{eq-eqb, ne_eqb}
 use Rattle.page_writer.specs.Page.{page_left, byte_left}
 use Rattle.page_writer.proofs.leave.Goals as goal

@@ -1,6 +1,5 @@
 -- `page_writer::put_number` meets its contract. Assumes nothing.
 use native.Mathlib.Omega.{arith}
-use borrow.Author.Rules.{rules}
 use lib.ListN.{length-set}
 use Rattle.page_writer.proofs.Bytes.{two_stored}
 use Rattle.page_writer.proofs.put_number.Goals as goal

@@ -2,7 +2,6 @@
 use mathlib.Core.Path.{refl}
 use native.Mathlib.Omega.{arith}
 use borrow.Author.Tests.{le-leb, lt-leb}
-use borrow.Author.Rules.{rules}
 use Rattle.format.specs.Writer.{either_question}
 use Rattle.writer.specs.List.{yes_to_35}
 use Rattle.writer.proofs.Job.{no_35, asked_35, too_many}

@@ -1,8 +1,6 @@
 -- `writer::write_first` meets its contract: 35 and 14 are asked where n is above 4,096, and the rest is `write_some`'s. Assumes nothing.
 use mathlib.Core.Path.{refl, sym, ap, ◌∙◌}
 use mathlib.Core.Bool.{Bool, cond}
-use borrow.Author.Tests.{not-true, not-false}
-use borrow.Author.Rules.{rules}
 use Rattle.writer.specs.Outcomes.{in_array, past_array}
 use Rattle.writer.specs.declared.Written.TheVariants.{Refused}
 use Rattle.writer.proofs.write_first.Goals as goal

@@ -1,8 +1,6 @@
 -- `writer::write_keys` meets its contract. Assumes nothing.
 use mathlib.Core.Path.{sym, ◌∙◌}
 use lib.Dec.{leb}
-use borrow.Author.Tests.{not-true, not-false}
-use borrow.Author.Rules.{rules}
 use Rattle.format.specs.Question.{is_lift}
 use Rattle.format.specs.Writer.{either_question, lift_question}
 use Rattle.format.proofs.Lists.{and_right}

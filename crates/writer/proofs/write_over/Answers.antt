@@ -3,7 +3,6 @@ use mathlib.Core.Path.{ap}
 use Prim.Native.Nat.{◌-◌}
 use native.Mathlib.Omega.{arith}
 use lib.ListN.{length, take, drop, length-append, take-append-drop}
-use borrow.Author.Rules.{rules}
 use Rattle.writer.proofs.Job.{all_loaded, used-loaded, plan_refused, plan_accepted}
 use Rattle.writer.proofs.write_over.Goals as goal
 

@@ -4,7 +4,6 @@ use mathlib.Core.List.{List}
 use Prim.Native.Nat.{ℕ, ◌-◌}
 use native.Mathlib.Omega.{arith}
 use lib.ListN.{take}
-use borrow.Author.Rules.{rules}
 use Rattle.writer.specs.List.{not_written, written}
 use Rattle.writer.proofs.Again.{part_back}
 use Rattle.writer.proofs.list.fill_first.Goals as goal

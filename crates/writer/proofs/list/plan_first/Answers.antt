@@ -1,8 +1,6 @@
 -- `writer::list::plan_first` meets its contract. Assumes nothing.
 use mathlib.Core.Path.{refl, sym, ◌∙◌}
 use native.Mathlib.Omega.{arith}
-use borrow.Author.Tests.{not-true, not-false}
-use borrow.Author.Rules.{rules}
 use Rattle.format.proofs.Jobs.{lift_range}
 use Rattle.writer.specs.List.{no_lift, too_many}
 use Rattle.writer.proofs.Again.{first_planned}

@@ -1,5 +1,5 @@
--- `writer::list::weave_first` meets its contract. The invariant: the first i keys are woven, and no more are to be than there are
--- places and admissions. Assumes nothing.
+-- `writer::list::weave_first` meets its contract. The invariant: the first i keys are woven. No more are to be than there are admissions
+-- and places. Assumes nothing.
 use mathlib.Core.Path.{◌≡◌, ap, ◌∙◌}
 use Prim.Native.Nat.{ℕ, ◌<◌}
 use native.Mathlib.Omega.{arith}

@@ -1,10 +1,6 @@
--- `writer::list::weave_first` meets its contract. The invariant: the first i keys are woven, and no more are to be than there are
--- places and admissions.
+-- `writer::list::weave_first` meets its contract. The invariant: the first i keys are woven.
 use mathlib.Core.Path.{◌≡◌}
 use Prim.Native.Nat.{◌-◌, ◌≤◌}
-use lib.ListN.{length}
-use Rattle.zorder.specs.Table.{IsSpreads}
-use Rattle.writer.specs.List.{fitting}
 use Rattle.writer.proofs.Weaving.{woven_to}
 use Rattle.writer.proofs.list.weave_first.Given as goal
 
