@@ -1,0 +1,13 @@
+-- `report::put_refusal` meets its contract. Assumes nothing.
+use borrow.Author.Rules.{rules}
+use Rattle.format.specs.Text.{refused_word}
+use Rattle.report.proofs.Puts.{put_then}
+use Rattle.report.proofs.Reports.{put_word}
+use Rattle.report.proofs.put_refusal.Goals as goal
+
+pub returns : goal.returns
+unfolding refused_word
+returns c =
+    let f = c.put_field in
+    let w = c.put_refused in
+    put_then c.args.out.now 0 refused_word 8 w.new.out 8 _ 6 _ _ (put_word c.args.out.now w.new.out refused_word w.ensures) f.ensures
