@@ -1,5 +1,4 @@
 -- `gate::is_lane` meets its contract. Assumes nothing.
-use borrow.Author.Rules.{rules}
 use Rattle.format.specs.Scan.{is_lane}
 use Rattle.gate.proofs.is_lane.Goals as goal
 

@@ -1,5 +1,4 @@
 -- `gate::lift_fits` meets its contract. Assumes nothing.
-use borrow.Author.Rules.{rules}
 use Rattle.gate.proofs.Scans.{fits_none, fits_own}
 use Rattle.gate.proofs.lift_fits.Goals as goal
 

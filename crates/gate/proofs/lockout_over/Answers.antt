@@ -1,5 +1,4 @@
 -- `gate::lockout_over` meets its contract. Assumes nothing.
-use borrow.Author.Rules.{rules}
 use borrow.Author.Tests.{eq-eqb, ne_eqb}
 use Rattle.format.specs.Question.{is_zero}
 use Rattle.format.specs.Scan.{lockout_over}

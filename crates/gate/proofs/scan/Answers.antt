@@ -4,7 +4,7 @@ use mathlib.Core.Path.{◌≡◌, sym, ap, ◌∙◌}
 use Prim.Native.Nat.{ℕ}
 use native.Mathlib.Omega.{arith}
 use Rattle.format.specs.Question.{Outcome, returns as answers}
-use Rattle.format.specs.Answer.{LookupAnswer, absent, listed, lookup}
+use Rattle.format.specs.Answer.{LookupAnswer, absent, listed}
 use Rattle.format.proofs.Histories.{records_fit}
 use Rattle.format.proofs.Questions.{yes_of_none}
 use Rattle.header.proofs.Refusals.{none_refused}

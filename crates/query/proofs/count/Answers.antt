@@ -1,7 +1,5 @@
 -- `query::count` meets its contract. Assumes nothing.
 use mathlib.Core.Path.{sym, ◌∙◌}
-use borrow.Author.Rules.{rules}
-use borrow.Author.Tests.{not-true, not-false}
 use Rattle.checker.proofs.After.{accepted_image, answer_accepted, answer_refused}
 use Rattle.nodes.proofs.Numbers.{bytes_of}
 use Rattle.query.specs.Outcomes.{members_outcome}

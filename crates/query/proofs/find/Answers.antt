@@ -1,6 +1,5 @@
 -- `query::find` meets its contract. Assumes nothing.
 use native.Mathlib.Omega.{arith}
-use borrow.Author.Rules.{rules}
 use Rattle.checker.proofs.After.{accepted_image, answer_accepted, answer_refused, returned_count}
 use Rattle.nodes.proofs.Numbers.{bytes_of}
 use Rattle.query.specs.Outcomes.{find_outcome}

@@ -1,7 +1,6 @@
 -- `query::list` meets its contract. Assumes nothing.
 use mathlib.Core.Path.{sym, ◌∙◌}
-use borrow.Author.Rules.{rules}
-use borrow.Author.Tests.{not-true, not-false, ltb-true, ltb-false}
+use borrow.Author.Tests.{ltb-true, ltb-false}
 use Rattle.checker.proofs.After.{accepted_image, answer_accepted, answer_refused, returned_count}
 use Rattle.nodes.proofs.Numbers.{bytes_of}
 use Rattle.query.specs.Outcomes.{members_outcome}

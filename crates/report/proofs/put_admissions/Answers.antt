@@ -1,7 +1,6 @@
 -- `report::put_admissions` meets its contract: 11 stores in a row. Assumes nothing.
 use mathlib.Core.Path.{refl}
 use native.Mathlib.Omega.{arith}
-use borrow.Author.Rules.{rules}
 use lib.ListN.{length-set}
 use Rattle.format.specs.Text.{admissions_word}
 use Rattle.report.proofs.put_admissions.Goals as goal

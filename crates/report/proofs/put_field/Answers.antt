@@ -1,6 +1,5 @@
 -- `report::put_field` meets its contract. Assumes nothing.
 use native.Mathlib.Omega.{arith}
-use borrow.Author.Rules.{rules}
 use Rattle.report.proofs.Puts.{put_field, field_room}
 use Rattle.report.proofs.put_field.Goals as goal
 

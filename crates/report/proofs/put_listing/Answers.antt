@@ -1,7 +1,6 @@
 -- `report::put_listing` meets its contract. Assumes nothing.
-use borrow.Author.Rules.{rules}
 use mathlib.Core.List.{◌++◌}
-use Prim.Native.Nat.{◌+◌, ◌*◌}
+use Prim.Native.Nat.{◌*◌}
 use Rattle.format.specs.Text.{admissions_word}
 use Rattle.report.specs.Row.{field_of}
 use Rattle.report.proofs.Puts.{put_then}

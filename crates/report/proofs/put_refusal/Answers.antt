@@ -1,5 +1,4 @@
 -- `report::put_refusal` meets its contract. Assumes nothing.
-use borrow.Author.Rules.{rules}
 use Rattle.format.specs.Text.{refused_word}
 use Rattle.report.proofs.Puts.{put_then}
 use Rattle.report.proofs.Reports.{put_word}

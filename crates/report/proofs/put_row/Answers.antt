@@ -1,6 +1,5 @@
 -- `report::put_row` meets its contract: three fields. Assumes nothing.
 use mathlib.Core.Path.{◌∙◌}
-use borrow.Author.Rules.{rules}
 use Rattle.report.proofs.Puts.{put_row}
 use Rattle.report.proofs.put_row.Goals as goal
 

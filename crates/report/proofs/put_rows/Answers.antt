@@ -1,8 +1,7 @@
 -- `report::put_rows` meets its contract. The loop's invariant: the lines of the keys passed are written. Assumes nothing.
 use mathlib.Core.Path.{◌≡◌, subst}
-use Prim.Native.Nat.{ℕ, ◌-◌, ◌*◌, ◌≤◌}
+use Prim.Native.Nat.{ℕ, ◌*◌}
 use native.Mathlib.Omega.{arith}
-use borrow.Author.Rules.{rules}
 use lib.ListN.{take}
 use Rattle.format.specs.Text.{rows}
 use Rattle.report.specs.Row.{Put}

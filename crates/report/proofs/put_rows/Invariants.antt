@@ -1,12 +1,8 @@
 -- `report::put_rows` meets its contract. The loop's invariant: the lines of the keys passed are written. Assumes nothing.
-use mathlib.Core.Path.{◌≡◌, subst}
-use Prim.Native.Nat.{ℕ, ◌-◌, ◌*◌, ◌≤◌}
-use native.Mathlib.Omega.{arith}
-use borrow.Author.Rules.{rules}
+use Prim.Native.Nat.{◌-◌, ◌*◌, ◌≤◌}
 use lib.ListN.{take}
 use Rattle.format.specs.Text.{rows}
 use Rattle.report.specs.Row.{Put}
-use Rattle.report.proofs.Puts.{put_length, put_next, put_start}
 use Rattle.report.proofs.put_rows.Given as goal
 
 abbrev pub invariant-loop-i : goal.invariant-loop-i

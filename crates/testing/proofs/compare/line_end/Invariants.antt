@@ -1,7 +1,6 @@
 -- `testing::compare::line_end` meets its contract. Assumes nothing.
 use Prim.Native.Nat.{◌-◌, ◌≤◌}
 use lib.ListN.{length}
-use borrow.Author.Rules.{rules}
 use Rattle.testing.proofs.compare.line_end.Given as goal
 
 abbrev pub invariant-loop-end : goal.invariant-loop-end

@@ -1,7 +1,6 @@
 -- `testing::compare::starts_with_bytes` meets its contract. Assumes nothing.
 use Prim.Native.Nat.{◌-◌, ◌≤◌}
 use lib.ListN.{length}
-use borrow.Author.Rules.{rules}
 use Rattle.testing.proofs.compare.starts_with_bytes.Given as goal
 
 abbrev pub invariant-loop-i : goal.invariant-loop-i

@@ -1,8 +1,7 @@
 -- `testing::lists::move_up` meets its contract. Assumes nothing.
-use Prim.Native.Nat.{◌-◌, ◌≤◌}
+use Prim.Native.Nat.{◌≤◌}
 use lib.ListN.{length}
 use mathlib.Core.Path.{◌≡◌}
-use borrow.Author.Rules.{rules}
 use Rattle.testing.proofs.lists.move_up.Given as goal
 
 abbrev pub invariant-loop-i : goal.invariant-loop-i

@@ -1,9 +1,6 @@
 -- `testing::lists::spaced` meets its contract. Assumes nothing.
-use Prim.Native.Nat.{◌-◌, ◌≤◌}
 use native.Mathlib.Omega.{arith}
-use lib.ListN.{length, length-set}
-use mathlib.Core.Path.{◌≡◌}
-use borrow.Author.Rules.{rules}
+use lib.ListN.{length-set}
 use Rattle.testing.proofs.lists.spaced.Goals as goal
 
 pub loop-n-preserved : goal.loop-n-preserved

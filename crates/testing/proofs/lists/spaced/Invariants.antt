@@ -1,9 +1,7 @@
 -- `testing::lists::spaced` meets its contract. Assumes nothing.
 use Prim.Native.Nat.{◌-◌, ◌≤◌}
-use native.Mathlib.Omega.{arith}
-use lib.ListN.{length, length-set}
+use lib.ListN.{length}
 use mathlib.Core.Path.{◌≡◌}
-use borrow.Author.Rules.{rules}
 use Rattle.testing.proofs.lists.spaced.Given as goal
 
 abbrev pub invariant-loop-n : goal.invariant-loop-n

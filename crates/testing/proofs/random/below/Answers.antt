@@ -2,7 +2,6 @@
 use Prim.Native.Nat.{◌/◌}
 use native.Mathlib.Nat.{mod-lt}
 use native.Mathlib.Omega.{arith}
-use borrow.Author.Rules.{rules}
 use Rattle.testing.proofs.random.below.Goals as goal
 
 pub overflow_cast-result-2 : goal.overflow_cast-result-2

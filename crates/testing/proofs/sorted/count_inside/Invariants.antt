@@ -1,8 +1,5 @@
 -- `testing::sorted::count_inside` meets its contract. Assumes nothing.
 use Prim.Native.Nat.{◌-◌, ◌≤◌}
-use native.Mathlib.Omega.{arith}
-use mathlib.Core.Logic.{⊎_elim}
-use borrow.Author.Rules.{rules}
 use Rattle.testing.proofs.sorted.count_inside.Given as goal
 
 abbrev pub invariant-loop-i : goal.invariant-loop-i

@@ -1,6 +1,5 @@
 -- `testing::sorted::even_bits` meets its contract. Assumes nothing.
 use Prim.Native.Nat.{◌-◌, ◌≤◌, ◌<◌}
-use borrow.Author.Rules.{rules}
 use Rattle.testing.proofs.sorted.even_bits.Given as goal
 
 abbrev pub invariant-loop-i : goal.invariant-loop-i

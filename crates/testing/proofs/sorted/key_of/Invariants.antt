@@ -1,6 +1,5 @@
 -- `testing::sorted::key_of` meets its contract. Assumes nothing.
 use Prim.Native.Nat.{◌-◌, ◌≤◌, ◌<◌}
-use borrow.Author.Rules.{rules}
 use Rattle.testing.proofs.sorted.key_of.Given as goal
 
 abbrev pub invariant-loop-i : goal.invariant-loop-i
