@@ -4,7 +4,7 @@ use Prim.Native.Nat.{◌+◌}
 use native.Mathlib.Omega.{arith}
 use Rattle.nodes.proofs.Numbers.{bytes_of}
 use Rattle.paged_lookup.proofs.Walking.{LeftBy, absent_is, refused_is, header-yes_of, no_keys_answer, walking_start, walking_band, walking_refused, walking_ends, left_on, left_off, walking_page, walking_next, walking_listed, walking_absent}
-use Rattle.paged_lookup.proofs.walk.Goals.{in-Out, in-Off+else-figure-links_due}
+use Rattle.paged_lookup.proofs.walk.Goals.{Joined-way, in-Out, in-Off+else-figure-links_due}
 use Rattle.paged_lookup.proofs.walk.Goals as goal
 
 pub key_count-keys-requires : goal.key_count-keys-requires
@@ -40,16 +40,23 @@ returns-then-figure-links_due c =
     absent_is
     (walking_ends c.loop-passed.invariant c.loop-passed-test.true (ap (λ x. x.0) c.cross.ensures) c.through-step.ensures c.in-Off.is (c.if-figure-links_due.true ∙ c.links_due.ensures.0) c.key_count-keys.ensures.0) n.0 n.1
 
+-- where a band has been left
+left : (c : Joined-way) → LeftBy c.args.image.now (c.loop-passed.passed + 1) c.through-step.result c.match-way.link c.match-way.on
+left c =
+    let s = c.loop-passed.invariant in
+    let h = c.loop-passed-test.true in
+    let r = ap (λ x. x.0) c.cross.ensures in
+    elim c.match-way.branch [
+      | in-Out w ↦ rw (w.link-is, w.on-is) (left_on s h r c.through-step.ensures w.in-Out.is)
+      | in-Off+else-figure-links_due w ↦ rw (w.link-is, w.on-is) (left_off s h r c.through-step.ensures w.in-Off.is (λ e. w.if-figure-links_due.false (e ∙ sym w.links_due.ensures.0)))
+    ]
+
 pub overflow_cast-pages : goal.overflow_cast-pages
 overflow_cast-pages c =
     let s = c.loop-passed.invariant in
     let h = c.loop-passed-test.true in
     let r = ap (λ x. x.0) c.cross.ensures in
-    let left : LeftBy c.args.image.now (c.loop-passed.passed + 1) c.through-step.result c.match-way.link c.match-way.on = elim c.match-way.branch [
-      | in-Out w ↦ rw (w.link-is, w.on-is) (left_on s h r c.through-step.ensures w.in-Out.is)
-      | in-Off+else-figure-links_due w ↦ rw (w.link-is, w.on-is) (left_off s h r c.through-step.ensures w.in-Off.is (λ e. w.if-figure-links_due.false (e ∙ sym w.links_due.ensures.0)))
-    ] in
-    record { fits = walking_page s h r c.through-step.ensures left }
+    record { fits = walking_page s h r c.through-step.ensures (left (goal.at.overflow_cast-pages c).Joined-way) }
 
 pub page_count-first-requires : goal.page_count-first-requires
 page_count-first-requires c = (c.loop-passed.invariant.header.long, omega (arith, c.loop-passed-test.true))
@@ -62,11 +69,7 @@ loop-passed-preserved c =
     let s = c.loop-passed.invariant in
     let h = c.loop-passed-test.true in
     let r = ap (λ x. x.0) c.cross.ensures in
-    let left : LeftBy c.args.image.now (c.loop-passed.passed + 1) c.through-step.result c.match-way.link c.match-way.on = elim c.match-way.branch [
-      | in-Out w ↦ rw (w.link-is, w.on-is) (left_on s h r c.through-step.ensures w.in-Out.is)
-      | in-Off+else-figure-links_due w ↦ rw (w.link-is, w.on-is) (left_off s h r c.through-step.ensures w.in-Off.is (λ e. w.if-figure-links_due.false (e ∙ sym w.links_due.ensures.0)))
-    ] in
-    walking_next s h r c.through-step.ensures left c.page_count-first.ensures.0 c.page_count-first.ensures.1
+    walking_next s h r c.through-step.ensures (left (goal.at.loop-passed-preserved c).Joined-way) c.page_count-first.ensures.0 c.page_count-first.ensures.1
 
 pub overflow_cast-result : goal.overflow_cast-result
 overflow_cast-result c = omega (arith, c.loop-passed.invariant.link_small)

@@ -10,6 +10,8 @@ use Rattle.paged_lookup.proofs.band.through_judged.Goals as goal
 pub pages_upto-upto-requires : goal.pages_upto-upto-requires
 pages_upto-upto-requires c = band_fits c.requires.0 c.page_count-pages.ensures.0
 
+-- where no page has been found,
+-- every T of the band is above the root
 pub returns-then-upto-eq0 : goal.returns-then-upto-eq0
 returns-then-upto-eq0 c =
     step-none c.args.image.now c.args.key c.args.band c.args.on c.args.root.0 _

@@ -41,5 +41,7 @@ overflow_add-link c = omega (arith, c.loop-passed.invariant.short, c.requires.3)
 pub returns-then-at : goal.returns-then-at
 returns-then-at c = way_out _ _ _ (going_out c.loop-passed.invariant c.loop-passed-test.false).1 c.if-at.true
 
+-- past an off bit the link is a figure:
+-- the out-links of the band that lie left
 pub returns : goal.returns
 returns c = way_off _ _ _ (going_out c.loop-passed.invariant c.loop-passed-test.false).1 c.if-at.false
