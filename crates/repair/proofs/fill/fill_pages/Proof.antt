@@ -6,57 +6,53 @@ use Rattle.repair.proofs.Filling.{PagesLoop, filled-length, page_here, pages_end
 use Rattle.repair.proofs.fill.fill_pages.Statement.{statement}
 use Rattle.repair.proofs.fill.fill_pages.Tie as tie
 
-abbrev invariant-loop : tie.invariant-loop
+abbrev invariant-loop : tie.invariant-loop-p
 invariant-loop image out₀ t b end altered₀ p₀ out altered p = PagesLoop image t b out₀ out end p altered
 
-abbrev decreases-loop : tie.decreases-loop
+abbrev decreases-loop : tie.decreases-loop-p
 decreases-loop image out₀ t b end altered₀ p₀ out altered p = end - p
 
 -- a page's number, in a turn of the loop
-few : (i : tie.In-loop invariant-loop decreases-loop) → i.before.loop.p ≤ 384
-few i = place_few i.before.loop.invariant i.loop-test.true
+few : (i : tie.In-loop-p invariant-loop decreases-loop) → i.loop-p.p ≤ 384
+few i = place_few i.loop-p.invariant i.loop-p-test.true
 
-some : (i : tie.In-loop invariant-loop decreases-loop) → 1 ≤ i.before.loop.p
-some i = i.before.loop.invariant.some
+some : (i : tie.In-loop-p invariant-loop decreases-loop) → 1 ≤ i.loop-p.p
+some i = i.loop-p.invariant.some
 
-abbrev i₁ : tie.After-put invariant-loop decreases-loop → tie.In-loop invariant-loop decreases-loop
-i₁ c = c.before.before.before
+abbrev i₁ : tie.After-put-altered invariant-loop decreases-loop → tie.In-loop-p invariant-loop decreases-loop
+i₁ c = c.before.before.before.before
 
-abbrev i₂ : tie.After-put2 invariant-loop decreases-loop → tie.After-put invariant-loop decreases-loop
-i₂ c = c.before.before.before.before.before
+abbrev i₂ : tie.After-put-altered-in-loop-p invariant-loop decreases-loop → tie.After-put-altered invariant-loop decreases-loop
+i₂ c = c.before.before.before.before.before.before
 
-loop-holds : tie.Need-loop-init invariant-loop decreases-loop
-loop-holds c = pages_start c.before.before.requires.0 c.before.before.requires.1 refl
+loop-holds : tie.Need-loop-p-init invariant-loop decreases-loop
+loop-holds c = pages_start c.requires.0 c.requires.1 refl
 
-put-requires : tie.Need-put-requires invariant-loop decreases-loop
+put-requires : tie.Need-put-altered-requires invariant-loop decreases-loop
 put-requires c κs =
-    let i = c.before.before in
-    let u = i.before.loop.invariant in
-    (omega (arith, page_here u i.loop-test.true), pages_room u, u.noted.t_noted _ u.some i.loop-test.true)
+    let u = c.loop-p.invariant in
+    (omega (arith, page_here u c.loop-p-test.true), pages_room u, u.noted.t_noted _ u.some c.loop-p-test.true)
 
-add-altered : tie.Need-overflow-add-altered invariant-loop decreases-loop
-add-altered c = let p = c.before.before in omega (arith, (i₁ p).before.loop.invariant.few, few (i₁ p), p.put.ensures.few)
+add-altered : tie.Need-overflow_add-altered invariant-loop decreases-loop
+add-altered c = omega (arith, (i₁ c.before.before).loop-p.invariant.few, few (i₁ c.before.before), c.put-altered.ensures.few)
 
-put-requires-2 : tie.Need-put-requires-2 invariant-loop decreases-loop
+put-requires-2 : tie.Need-put-altered-requires-in-loop-p invariant-loop decreases-loop
 put-requires-2 c κs =
-    let p = c.before.before.before.before in
-    let u = (i₁ p).before.loop.invariant in
-    (omega (arith, page_here u (i₁ p).loop-test.true), omega (arith, filled-length p.put.ensures, pages_room u), u.noted.b_noted _ u.some (i₁ p).loop-test.true)
+    let u = (i₁ c.before.before.before.before.before).loop-p.invariant in
+    (omega (arith, page_here u (i₁ c.before.before.before.before.before).loop-p-test.true), omega (arith, filled-length c.put-altered.ensures, pages_room u), u.noted.b_noted _ u.some (i₁ c.before.before.before.before.before).loop-p-test.true)
 
-add-altered-2 : tie.Need-overflow-add-altered-2 invariant-loop decreases-loop
+add-altered-2 : tie.Need-overflow_add-altered-in-loop-p invariant-loop decreases-loop
 add-altered-2 c =
-    let q = c.before.before in
-    let p = i₂ q in
-    omega (arith, (i₁ p).before.loop.inv.few, few (i₁ p), p.put.ensures.few, q.put2.ensures.few)
+    let p = i₂ c.before.before in
+    omega (arith, (i₁ p).loop-p.invariant.few, few (i₁ p), p.put-altered.ensures.few, c.put-altered-in-loop-p.ensures.few)
 
-loop-again : tie.Need-loop-preserved invariant-loop decreases-loop
+loop-again : tie.Need-loop-p-preserved invariant-loop decreases-loop
 loop-again c =
-    let q = c.before.before in
-    let p = i₂ q in
-    pages_next (i₁ p).before.loop.inv (i₁ p).loop-test.taken p.put.ensures q.put2.ensures
+    let p = i₂ c.before.before in
+    pages_next (i₁ p).loop-p.invariant (i₁ p).loop-p-test.true p.put-altered.ensures c.put-altered-in-loop-p.ensures
 
-pub fill-pages-spec : {M : Type 1} → statement M
-fill-pages-spec =
+pub fill_pages_spec : {M : Type 1} → statement M
+fill_pages_spec =
     tie.close
     (tie.spec
     invariant-loop
@@ -65,18 +61,18 @@ fill-pages-spec =
     (λ c. omega (arith, few c.before))
     (λ c. some c.before)
     (λ c. omega (arith, few c.before))
-    (λ c. omega (arith, few c.before, some c.before))
+    (λ c. omega (arith, few c.before.before, some c.before.before))
     put-requires
     add-altered
     (λ c. omega (arith, few (i₁ c.before.before.before)))
     (λ c. omega (arith, few (i₁ c.before.before.before)))
     (λ c. some (i₁ c.before.before.before))
     (λ c. omega (arith, few (i₁ c.before.before.before)))
-    (λ c. let i = i₁ c.before.before.before in omega (arith, few i, some i))
+    (λ c. let i = i₁ c.before.before.before.before in omega (arith, few i, some i))
     put-requires-2
     add-altered-2
     (λ c. omega (arith, few (i₁ (i₂ c.before.before))))
-    (λ c. let i = i₁ (i₂ c.before.before) in omega (arith, i.loop-test.taken))
+    (λ c. let i = i₁ (i₂ c.before.before) in omega (arith, i.loop-p-test.true))
     loop-again
-    (λ c. filled-length c.before.loop.invariant.filled)
-    (λ c. pages_end c.before.loop.invariant c.loop-test.false))
+    (λ c. filled-length c.loop-p.invariant.filled)
+    (λ c. pages_end c.loop-p.invariant c.loop-p-test.false))
