@@ -33,7 +33,7 @@ pos-is n h = to_z_pos w64 {n = n} h
 
 -- what a callee returned, handed on
 pub back_neg : (z : ℤ) (n : ℕ) → n < 256 → z ≡ neg_ℤ (pos n) → to_z w64 (of_z w64 z) ≡ neg_ℤ (pos n)
-back_neg z n h e = to_z-of_z (rw e (sfits_of (omega (arith, mag_neg n)))) ∙ e
+back_neg z n h e = to_z-of_z {w = w64} {z = z} (rw e (sfits_of (omega (arith, mag_neg n)))) ∙ e
 
 pub back_pos : (z : ℤ) (n : ℕ) → n < 9223372036854775808 → z ≡ pos n → to_z w64 (of_z w64 z) ≡ pos n
-back_pos z n h e = to_z-of_z (rw e (pos_fits n h)) ∙ e
+back_pos z n h e = to_z-of_z {w = w64} {z = z} (rw e (pos_fits n h)) ∙ e

@@ -90,7 +90,6 @@ pub extern "C" fn lpt_admission_of(key: u32) -> i64
     admission(zorder::unweave(key))
 }
 
-// Over a lent slice of structs, so proved by hand.
 #[unsafe(no_mangle)]
 pub extern "C" fn lpt_write(list: &[Admission], lift: u32, out: &mut [u8]) -> i64
     ensures { WrittenToC lift list.now out.old result out.new }

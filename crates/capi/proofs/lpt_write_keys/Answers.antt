@@ -1,0 +1,19 @@
+-- `capi::lpt_write_keys` meets its contract. Assumes nothing.
+use mir.Syntax.{w64}
+use mathlib.Core.Path.{ap, ◌∙◌}
+use Prim.Native.Nat.{ℕ, ◌^◌, ◌<◌}
+use mir.Facts.{to_z-of_z}
+use Rattle.format.proofs.Lists.{all_of}
+use Rattle.capi.specs.Encoding.{encoded}
+use Rattle.capi.proofs.Length.{keys_within}
+use borrow.Author.Rules.{sfits_of}
+use Rattle.capi.proofs.lpt_write_keys.Goals as goal
+
+pub written-requires : goal.written-requires
+written-requires c =
+    keys_within _ _ (all_of (λ (key : ℕ). key < 2 ^ 32) c.args.keys.now 0 (λ i. (c.shared_slice_known-1.given i).fits)) _ _ _ c.write_keys.ensures
+
+pub returns : goal.returns
+returns c =
+    let w = c.write_keys in
+    (to_z-of_z {w = w64} (sfits_of c.written.type_inv) ∙ c.written.ensures ∙ ap encoded w.ensures.returned, w.ensures.bytes)
