@@ -3,6 +3,7 @@ use mathlib.Core.Path.{◌≡◌, refl, sym, ap}
 use mathlib.Core.Bool.{Bool, true}
 use mathlib.Core.List.{List}
 use Prim.Native.Nat.{ℕ, ◌+◌, ◌≤◌}
+use native.Mathlib.Omega.{arith}
 use lib.Dec.{leb}
 use borrow.Author.Tests.{eq-eqb, ne_eqb, le-leb, lt-leb}
 use Rattle.format.specs.Question.{Question, first_no}
@@ -57,7 +58,7 @@ pub returns-then-not-room : goal.returns-then-not-room
 unfolding refusal_of change_questions
 returns-then-not-room c =
     no_to 17 _ _ _ _ (past14 _ _ _ _ _ c.if-not-length_right.false _ c.can_change-can.ensures c.if-not-can.false _ c.few_enough-few.ensures c.if-not-few.false)
-    (asked_17 _ c.args.places _ _ c.changed_count.ensures.0) (lt-leb _ _ c.if-not-room.true)
+    (asked_17 _ c.args.places _ _ c.changed_count.ensures.0) (lt-leb _ c.args.places (omega arith))
 
 pub returns : goal.returns
 unfolding refusal_of change_questions first_no
