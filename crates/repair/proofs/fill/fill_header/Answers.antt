@@ -9,10 +9,6 @@ loop-k-init c = header_start_lem c.requires.0 c.requires.1
 pub put-altered-requires : goal.put-altered-requires
 put-altered-requires c = let u = c.loop-k.invariant in (omega (arith, u.ready.whole.long, c.loop-k-test.true), header_room u, u.noted _ (omega (arith, c.loop-k-test.true)))
 
-pub overflow_add-altered : goal.overflow_add-altered
-overflow_add-altered c =
-    omega (arith, c.loop-k.invariant.few, c.loop-k-test.true, c.put-altered.ensures.few)
-
 pub loop-k-preserved : goal.loop-k-preserved
 loop-k-preserved c =
     header_next c.loop-k.invariant (omega (arith, c.loop-k-test.true)) c.put-altered.ensures

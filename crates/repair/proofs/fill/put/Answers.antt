@@ -4,14 +4,18 @@ use native.Mathlib.Omega.{arith}
 use Rattle.repair.proofs.Filling.{altered_other, altered_same, put_filled}
 use Rattle.repair.proofs.fill.put.Goals as goal
 
--- the image has the number already
+-- ---- the image has the number already
+
+-- nothing is altered
 pub returns-then-number-wide : goal.returns-then-number-wide
 returns-then-number-wide c =
     let p = c.requires in
     put_filled _ _ _ _ _ 0 (omega (arith, p.0, p.1)) c.put_number.ensures (omega arith) p.2
     (altered_same _ _ (sym c.number.ensures.0 ∙ c.if-number-wide.true ∙ c.wide.ensures.0 ∙ p.2)) (omega arith)
 
--- it has another
+-- ---- it has another
+
+-- that is altered
 pub returns : goal.returns
 returns c =
     let p = c.requires in

@@ -7,35 +7,8 @@ use Rattle.repair.proofs.roots.nodes_end.Goals as goal
 pub loop-j-init : goal.loop-j-init
 loop-j-init c = emptied_start _
 
-pub offset_bounds-word-j : goal.offset_bounds-word-j
-offset_bounds-word-j c = omega (arith, c.loop-j.invariant.within)
-
-pub bounds-word-j : goal.bounds-word-j
-bounds-word-j c = omega (arith, c.loop-j.invariant.within)
-
-pub overflow_mul-result : goal.overflow_mul-result
-overflow_mul-result c = omega (arith, c.loop-j.invariant.within)
-
-pub overflow_add-result : goal.overflow_add-result
-overflow_add-result c = omega (arith, c.loop-j.invariant.within)
-
-pub offset_bounds-word-j-then-word-j-ne0 : goal.offset_bounds-word-j-then-word-j-ne0
-offset_bounds-word-j-then-word-j-ne0 c = omega (arith, c.loop-j.invariant.within)
-
-pub bounds-word-j-then-word-j-ne0 : goal.bounds-word-j-then-word-j-ne0
-bounds-word-j-then-word-j-ne0 c = omega (arith, c.loop-j.invariant.within)
-
-pub overflow_sub-result : goal.overflow_sub-result
-overflow_sub-result c = omega (arith, c.empty_after.ensures.few, c.loop-j-test.true)
-
 pub returns-then-word-j-ne0 : goal.returns-then-word-j-ne0
 returns-then-word-j-ne0 c = ends_here c.loop-j.invariant _ c.empty_after.ensures c.if-word-j-ne0.true (omega (arith, c.empty_after.ensures.few, c.loop-j-test.true))
-
-pub overflow_sub-j : goal.overflow_sub-j
-overflow_sub-j c = let t = c.loop-j-test.true in omega arith
-
-pub loop-j-smaller : goal.loop-j-smaller
-loop-j-smaller c = let t = c.loop-j-test.true in omega arith
 
 pub loop-j-preserved : goal.loop-j-preserved
 loop-j-preserved c = emptied_next c.loop-j.invariant c.loop-j-test.true c.if-word-j-ne0.false
