@@ -29,7 +29,7 @@ pub enum Presence {
 }
 
 // What lookup finds, and the eight page numbers on the key's path: all 0 unless the key is listed.
-#[derive(Drop)]
+#[derive(Clone, Copy)]
 pub struct Found {
     pub answer: Presence,
     pub pages: [u32; 8],
