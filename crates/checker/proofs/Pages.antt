@@ -66,7 +66,7 @@ module _ (img : List ℕ) (at t b next previous : ℕ) where
 
       module _ (right-b : y ≡ b) where
         -- 9 to 12 are left to ask
-        past-8 : first_no (questions_at img at t b next previous) ≡ first_no (questions_after (next - t) (pairs_at img at) previous)
+        past-8 : first_no (questions_at img at t b next previous) ≡ first_no (questions_after img at (next - t) previous)
         unfolding questions_at
         past-8 = asked_yes 8 _ _ (ap₂ ◌&&◌ (eq-eqb (number_at img at) t (sym ex ∙ right-t)) (eq-eqb (number_at img (at + 2)) b (sym ey ∙ right-b)))
 
@@ -74,8 +74,8 @@ module _ (img : List ℕ) (at t b next previous : ℕ) where
         unfolding questions_after questions_from_9 node_questions
         no_roots e z = sym (past-8 ∙ asked_no 9 _ _ (roots_no t next (sym e ∙ z)))
 
-        pub by_shape : {roots : ℕ} → roots ≡ next - t → (s : Shape) → Asked (questions_after roots (pairs_at img at) previous) (pairs_at img at) roots s
+        pub by_shape : {roots : ℕ} → roots ≡ next - t → (s : Shape) → Asked (questions_after img at roots previous) (pairs_at img at) roots s
             → Asked (questions_at img at t b next previous) (pairs_at img at) (next - t) s
         by_shape e s f =
-            let shape = subst (λ (r : ℕ). Asked (questions_after r (pairs_at img at) previous) (pairs_at img at) r s) e f in
+            let shape = subst (λ (r : ℕ). Asked (questions_after img at r previous) (pairs_at img at) r s) e f in
             record { first_no_is = shape.first_no_is ∙ sym past-8; counted = shape.counted; bounded = shape.bounded }

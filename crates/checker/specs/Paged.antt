@@ -25,13 +25,13 @@ fourth_in word before r = r + ones_before word before (third_in word before r)
 abbrev pub first_nodes : ℕ → List ℕ → ℕ
 first_nodes r pairs = node_count 1 (first_subtries 1 (levels_in 4 r pairs))
 
--- 9 to 12 of a page of r roots, where the page before has so many nodes
-unfoldable pub questions_after : ℕ → List ℕ → ℕ → List Question
-questions_after r pairs previous = questions_from_9 r pairs (no_room previous (levels_in 4 r pairs))
+-- 9 to 12 of the page at a place, of r roots, where the page before has so many nodes
+unfoldable pub questions_after : List ℕ → ℕ → ℕ → ℕ → List Question
+questions_after img at r previous = questions_from_9 r (pairs_at img at) (no_room previous (levels_in 4 r (pairs_at img at)))
 
--- 8 to 12 of the page at a place, where the band's roots below t and its out-links below b stand before the page, and next is the first root after it
+-- 8 to 12, where the band's roots below t and its out-links below b stand before the page, and next is the first root after it
 unfoldable pub questions_at : List ℕ → ℕ → ℕ → ℕ → ℕ → ℕ → List Question
-questions_at img at t b next previous = (8, eqb (number_at img at) t && eqb (number_at img (at + 2)) b) ∷ questions_after (next - t) (pairs_at img at) previous
+questions_at img at t b next previous = (8, eqb (number_at img at) t && eqb (number_at img (at + 2)) b) ∷ questions_after img at (next - t) previous
 
 -- what is counted in a page of r roots that gets a yes throughout
 pub record Counted (pairs : List ℕ) (r : ℕ) (s : Shape) : Type 0 where

@@ -134,7 +134,7 @@ pub fn page_needed<'a>(
 // Questions 10 to 12 of the page at `at` with so many roots, after a page of `previous` nodes; 9 got a yes.
 fn check_shape(image: &[u8], at: usize, roots: usize, previous: usize) -> Shape
     requires { (at + 64 ≤ length image.now) × (1 ≤ roots) × (roots ≤ 60) × (previous ≤ 241) }
-    ensures { Asked (questions_after roots (pairs_at image.now at) previous) (pairs_at image.now at) roots result }
+    ensures { Asked (questions_after image.now at roots previous) (pairs_at image.now at) roots result }
 {
     let words = nodes::gather(image, at);
     let third = third_level(&words.word, &words.before, roots);

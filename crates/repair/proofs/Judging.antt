@@ -19,10 +19,10 @@ use Rattle.format.proofs.Counting.{every-flatten, flatten_levels}
 use Rattle.format.proofs.PageFacts.{nodes_facts}
 use Rattle.format.proofs.NodeQuestions.{NodesOk, nodes_of_lem, of_nodes}
 use Rattle.format.proofs.Read.{pages_within}
-use Rattle.checker.specs.Paged.{BandAt, questions_after}
+use Rattle.checker.specs.Paged.{BandAt}
 use Rattle.repair.specs.declared.judge.Held.{Held}
 use Rattle.repair.specs.declared.judge.Sums.{Sums}
-use Rattle.repair.specs.Numbers.{all_yes, band_links, band_roots, held_levels, held_links, held_roots, links_before, restored, roots_before, roots_held}
+use Rattle.repair.specs.Numbers.{all_yes, band_links, band_roots, held_levels, held_links, held_roots, links_before, restored, roots_before, roots_held, row_questions}
 use Rattle.repair.specs.Sound.{Sound, SoundPage, held_nodes, nodes_before}
 use Rattle.repair.specs.Inner.{BandJudged, BandReady, HeadsNoted, OnlyRoots, PageHeld, roots_after}
 use Rattle.repair.proofs.Reading.{b_back, T_back}
@@ -34,29 +34,29 @@ use Rattle.repair.proofs.Restoring.{links_small}
 -- ---- one page
 
 -- 9 to 12 with the roots held, and what is left where one gets a no
-after_yes : (ps : List ℕ) (previous : ℕ) → all_yes (questions_after (roots_held ps) ps previous) ≡ true → roots_after ps previous ≡ roots_held ps
+after_yes : (ps : List ℕ) (previous : ℕ) → all_yes (row_questions (roots_held ps) ps previous) ≡ true → roots_after ps previous ≡ roots_held ps
 unfolding roots_after
 after_yes ps previous e = rw e
 
 -- a page whose roots are left has a yes throughout
-pub after_some : (ps : List ℕ) (previous : ℕ) → 1 ≤ roots_after ps previous → All Yes (questions_after (roots_held ps) ps previous)
+pub after_some : (ps : List ℕ) (previous : ℕ) → 1 ≤ roots_after ps previous → All Yes (row_questions (roots_held ps) ps previous)
 unfolding roots_after
-after_some ps previous h = go (all_yes (questions_after (roots_held ps) ps previous)) refl h
+after_some ps previous h = go (all_yes (row_questions (roots_held ps) ps previous)) refl h
   where
-    go : (t : Bool) → all_yes (questions_after (roots_held ps) ps previous) ≡ t → 1 ≤ cond t (roots_held ps) 0 → All Yes (questions_after (roots_held ps) ps previous)
-    go true e k = yes_all (questions_after (roots_held ps) ps previous) e
+    go : (t : Bool) → all_yes (row_questions (roots_held ps) ps previous) ≡ t → 1 ≤ cond t (roots_held ps) 0 → All Yes (row_questions (roots_held ps) ps previous)
+    go true e k = yes_all (row_questions (roots_held ps) ps previous) e
     go false e k = absurd (omega arith)
 
-nodes_yes : (r : ℕ) (ps : List ℕ) (previous : ℕ) → All Yes (questions_after r ps previous) → All Yes (node_questions r ps)
-unfolding questions_after questions_from_9
+nodes_yes : (r : ℕ) (ps : List ℕ) (previous : ℕ) → All Yes (row_questions r ps previous) → All Yes (node_questions r ps)
+unfolding row_questions questions_from_9
 nodes_yes r ps previous h = all_left Yes (node_questions r ps) _ h
 
-pub after_none : (ps : List ℕ) (previous : ℕ) → (All Yes (questions_after (roots_held ps) ps previous) → 1 ≤ roots_held ps → ⊥) → roots_after ps previous ≡ 0
+pub after_none : (ps : List ℕ) (previous : ℕ) → (All Yes (row_questions (roots_held ps) ps previous) → 1 ≤ roots_held ps → ⊥) → roots_after ps previous ≡ 0
 unfolding roots_after
-after_none ps previous f = go (all_yes (questions_after (roots_held ps) ps previous)) refl
+after_none ps previous f = go (all_yes (row_questions (roots_held ps) ps previous)) refl
   where
-    go : (t : Bool) → all_yes (questions_after (roots_held ps) ps previous) ≡ t → cond t (roots_held ps) 0 ≡ 0
-    go true e = elim (ℕ_discrete (roots_held ps) 0) [ yes z ↦ z | no z ↦ absurd (f (yes_all (questions_after (roots_held ps) ps previous) e) (omega arith)) ]
+    go : (t : Bool) → all_yes (row_questions (roots_held ps) ps previous) ≡ t → cond t (roots_held ps) 0 ≡ 0
+    go true e = elim (ℕ_discrete (roots_held ps) 0) [ yes z ↦ z | no z ↦ absurd (f (yes_all (row_questions (roots_held ps) ps previous) e) (omega arith)) ]
     go false e = refl
 
 pub none_page : (ps : List ℕ) (previous : ℕ) → roots_after ps previous ≡ 0 → (h : Held) → h ≡ record { roots = 0; nodes = 0; links = 0 } → PageHeld ps previous h
@@ -66,10 +66,10 @@ none_page ps previous z h e =
 
 module _ (ps : List ℕ) (size : length ps ≡ 240) (previous r : ℕ) (o : OnlyRoots ps r) where
   -- with no other number of roots, so with none
-  none-with : (All Yes (questions_after r ps previous) → 1 ≤ r → ⊥) → roots_after ps previous ≡ 0
+  none-with : (All Yes (row_questions r ps previous) → 1 ≤ r → ⊥) → roots_after ps previous ≡ 0
   none-with f =
       after_none ps previous
-      (λ y k. let e = o.only (roots_held ps) (nodes_yes (roots_held ps) ps previous y) in f (subst (λ (q : ℕ). All Yes (questions_after q ps previous)) e y) (omega arith))
+      (λ y k. let e = o.only (roots_held ps) (nodes_yes (roots_held ps) ps previous y) in f (subst (λ (q : ℕ). All Yes (row_questions q ps previous)) e y) (omega arith))
 
   pub none_found : r ≡ 0 → roots_after ps previous ≡ 0
   none_found z = none-with (λ y k. omega arith)
@@ -103,17 +103,17 @@ module _ (ps : List ℕ) (size : length ps ≡ 240) (previous r : ℕ) (o : Only
 
       -- 12
       pub room_found : no_room previous (levels_in 4 r ps) ≡ false → roots_after ps previous ≡ 0
-      unfolding questions_after questions_from_9
+      unfolding row_questions questions_from_9
       room_found e = none-with (λ y k. false-true (sym e ∙ (all_right Yes (node_questions r ps) _ y).0))
 
       pub held_found : no_room previous (levels_in 4 r ps) ≡ true → (all : ℕ) → all ≡ on_bits ps → all ≤ 65535 → PageHeld ps previous (record { roots = r; nodes = end; links = all - (end - r) })
-      unfolding questions_after questions_from_9
+      unfolding row_questions questions_from_9
       held_found full all ea few =
           let f = nodes_facts ps r size ok in
           let e : roots_held ps ≡ r = held_is ps size r ok in
-          let y : All Yes (questions_after r ps previous) = all_append Yes (node_questions r ps) ((12, no_room previous (levels_in 4 r ps)) ∷ []) found_yes (full, tt) in
+          let y : All Yes (row_questions r ps previous) = all_append Yes (node_questions r ps) ((12, no_room previous (levels_in 4 r ps)) ∷ []) found_yes (full, tt) in
           record {
-            roots_are = sym (after_yes ps previous (all_yes_lem (questions_after (roots_held ps) ps previous) (rw e y)) ∙ e);
+            roots_are = sym (after_yes ps previous (all_yes_lem (row_questions (roots_held ps) ps previous) (rw e y)) ∙ e);
             nodes_are = λ k. is ∙ ap (λ (q : ℕ). node_count q (levels_in 4 q ps)) (sym e);
             links_are = λ k. (let l : all - (end - r) ≡ on_bits (get_or (levels_in 4 r ps) 3 []) = omega (arith, f.balance, f.count) in l) ∙ ap (λ (q : ℕ). on_bits (get_or (levels_in 4 q ps) 3 [])) (sym e);
             few_roots = o.few;
@@ -226,7 +226,7 @@ module _ {img : List ℕ} {b first pages i roots links nodes per : ℕ} {ts bs :
       judging_none z s =
           let y = s.page b i u.at.lo u.at.hi inner in
           let some = (nodes_of_lem _ (page_pairs img b i) (nodes_yes (roots_held (page_pairs img b i)) (page_pairs img b i) (nodes_before img b i) y)).some_roots in
-          omega (arith, here.roots_are, some, after_yes (page_pairs img b i) (nodes_before img b i) (all_yes_lem (questions_after (roots_held (page_pairs img b i)) (page_pairs img b i) (nodes_before img b i)) y))
+          omega (arith, here.roots_are, some, after_yes (page_pairs img b i) (nodes_before img b i) (all_yes_lem (row_questions (roots_held (page_pairs img b i)) (page_pairs img b i) (nodes_before img b i)) y))
 
       module _ (nonzero : held.roots ≡ 0 → ⊥) where
         sound-here : SoundPage img b i
@@ -235,7 +235,7 @@ module _ {img : List ℕ} {b first pages i roots links nodes per : ℕ} {ts bs :
 
         roots-here : held.roots ≡ held_roots img b i
         unfolding held_roots
-        roots-here = here.roots_are ∙ after_yes (page_pairs img b i) (nodes_before img b i) (all_yes_lem (questions_after (roots_held (page_pairs img b i)) (page_pairs img b i) (nodes_before img b i)) sound-here)
+        roots-here = here.roots_are ∙ after_yes (page_pairs img b i) (nodes_before img b i) (all_yes_lem (row_questions (roots_held (page_pairs img b i)) (page_pairs img b i) (nodes_before img b i)) sound-here)
 
         links-here : held.links ≡ held_links img b i
         unfolding held_links held_levels held_roots

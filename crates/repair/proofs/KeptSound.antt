@@ -17,8 +17,7 @@ use Rattle.format.proofs.Questions.{yes_of_none}
 use Rattle.format.proofs.NodeQuestions.{NodesOk, of_nodes}
 use Rattle.format.proofs.Checked.{Checked, Counts, cond_no, cond_yes, no_keys, page_nodes_lem, some_keys}
 use Rattle.format.proofs.Accepted.{facts}
-use Rattle.checker.specs.Paged.{questions_after}
-use Rattle.repair.specs.Numbers.{band_links, held_levels, held_roots}
+use Rattle.repair.specs.Numbers.{band_links, held_levels, held_roots, row_questions}
 use Rattle.repair.specs.Repair.{is_repairable}
 use Rattle.repair.specs.Sound.{Sound, SoundPage, SoundTop, header_kept, no_pages, nodes_before, one_root}
 use Rattle.repair.specs.Laws.{Repairs}
@@ -57,7 +56,7 @@ module _ {img new : List ℕ} (r : Repairs img new) where
         (lt-ltb 240 _ (c.page b (suc i) lo hi (there (suc i) h)).full)
 
     page-sound : (i : ℕ) → i < page_count img b → SoundPage img b i
-    unfolding questions_after questions_from_9 held_levels
+    unfolding row_questions questions_from_9 held_levels
     page-sound i h =
         let nodes : NodesOk (held_roots img b i) (page_pairs img b i) = rw (roots_given r.accepted r.agree b lo hi i h, same_pairs r.agree b i lo hi) (page_nodes_lem new b i (c.page b i lo hi (there i h))) in
         all_append Yes (node_questions (held_roots img b i) (page_pairs img b i)) ((12, no_room (nodes_before img b i) (levels_in 4 (held_roots img b i) (page_pairs img b i))) ∷ []) (of_nodes _ _ nodes) (needed i h, tt)

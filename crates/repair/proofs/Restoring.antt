@@ -26,9 +26,8 @@ use Rattle.format.proofs.Accepted.{accepted_of_yes}
 use Rattle.format.proofs.Read.{pages_within}
 use Rattle.format.proofs.Bounds.{page_bound}
 use Rattle.nodes.proofs.Gathered.{length_nodes, nodes_small}
-use Rattle.checker.specs.Paged.{questions_after}
 use Rattle.repair.specs.Kept.{Agree}
-use Rattle.repair.specs.Numbers.{band_links, band_roots, header_number, held_levels, held_links, held_roots, links_before, restored, roots_before}
+use Rattle.repair.specs.Numbers.{band_links, band_roots, header_number, held_levels, held_links, held_roots, links_before, restored, roots_before, row_questions}
 use Rattle.repair.specs.Repair.{is_repairable}
 use Rattle.repair.specs.Sound.{Sound, SoundTop, header_kept, held_nodes, no_pages, nodes_before, one_root}
 use Rattle.repair.proofs.Agreeing.{agree_sym, same_count, same_header, same_pairs, same_place, same_total}
@@ -89,11 +88,11 @@ module _ (img : List ℕ) (bytes : All Byte img) (s : Sound img) where
     page_room i h = omega (arith, size, pages_within img b lo hi)
 
     page_ok : (i : ℕ) → i < page_count img b → NodesOk (held_roots img b i) (page_pairs img b i)
-    unfolding questions_after questions_from_9
+    unfolding row_questions questions_from_9
     page_ok i h = nodes_of_lem _ _ (all_left Yes (node_questions (held_roots img b i) (page_pairs img b i)) _ (s.page b i lo hi h))
 
     page-needed : (i : ℕ) → i < page_count img b → no_room (nodes_before img b i) (held_levels img b i) ≡ true
-    unfolding questions_after questions_from_9 held_levels
+    unfolding row_questions questions_from_9 held_levels
     page-needed i h = (all_right Yes (node_questions (held_roots img b i) (page_pairs img b i)) _ (s.page b i lo hi h)).0
 
     -- it has at least as many out-links as roots

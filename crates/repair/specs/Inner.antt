@@ -7,12 +7,12 @@ use Rattle.format.specs.Page.{levels_in, node_count, number_at}
 use Rattle.format.specs.Image.{page_count}
 use Rattle.format.specs.Question.{Yes, is_zero, node_questions}
 use Rattle.nodes.specs.Words.{pairs_in}
-use Rattle.checker.specs.Paged.{BandAt, fourth_in, questions_after, third_in}
+use Rattle.checker.specs.Paged.{BandAt, fourth_in, third_in}
 use Rattle.repair.specs.declared.roots.Found.{Found}
 use Rattle.repair.specs.declared.roots.Levels.{Levels}
 use Rattle.repair.specs.declared.judge.Held.{Held}
 use Rattle.repair.specs.declared.judge.Sums.{Sums}
-use Rattle.repair.specs.Numbers.{all_yes, band_links, band_roots, put_numbers, restored, roots_held}
+use Rattle.repair.specs.Numbers.{all_yes, band_links, band_roots, put_numbers, restored, roots_held, row_questions}
 use Rattle.repair.specs.Repair.{is_repairable}
 use Rattle.repair.specs.Sound.{Sound, SoundPage}
 
@@ -56,7 +56,7 @@ pub record FoundRoots (word counts : List ℕ) (f : Found) : Type 0 where
 
 -- the roots held in a page, where 9 to 12 get a yes with them; else 0
 unfoldable pub roots_after : List ℕ → ℕ → ℕ
-roots_after pairs previous = cond (all_yes (questions_after (roots_held pairs) pairs previous)) (roots_held pairs) 0
+roots_after pairs previous = cond (all_yes (row_questions (roots_held pairs) pairs previous)) (roots_held pairs) 0
 
 pub record PageHeld (pairs : List ℕ) (previous : ℕ) (h : Held) : Type 0 where
   pub roots_are : h.roots ≡ roots_after pairs previous

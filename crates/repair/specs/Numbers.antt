@@ -7,13 +7,17 @@ use Rattle.format.specs.Seq.{every, last_below, total, up_to}
 use Rattle.format.specs.Trie.{on_bits}
 use Rattle.format.specs.Page.{levels_in, two_bytes}
 use Rattle.format.specs.Image.{bands, page_count, page_number, page_pairs}
-use Rattle.format.specs.Question.{Question, node_questions}
+use Rattle.format.specs.Question.{Question, no_room, node_questions, questions_from_9}
 
 -- every question gets a yes
 unfoldable pub all_yes : List Question → Bool
 all_yes qs = every (λ (q : Question). q.1) qs
 
 -- ---- a page
+
+-- 9 to 12 of a row of pairs as a page of r roots, where the page before has so many nodes: `questions_after` (checker/specs/Paged) of a page's pairs alone
+unfoldable pub row_questions : ℕ → List ℕ → ℕ → List Question
+row_questions r pairs previous = questions_from_9 r pairs (no_room previous (levels_in 4 r pairs))
 
 -- the roots of a page, from its pairs alone: the number with which 9 to 11 get a yes. There is at most one; 0 where there is none.
 unfoldable pub roots_held : List ℕ → ℕ

@@ -5,8 +5,7 @@ use Rattle.format.specs.Seq.{All, total}
 use Rattle.format.specs.Page.{node_count}
 use Rattle.format.specs.Image.{bands, page_count, page_pairs}
 use Rattle.format.specs.Question.{Yes, lift_right, mark_right, version_known, zeros_right}
-use Rattle.checker.specs.Paged.{questions_after}
-use Rattle.repair.specs.Numbers.{band_links, band_roots, held_levels, held_roots}
+use Rattle.repair.specs.Numbers.{band_links, band_roots, held_levels, held_roots, row_questions}
 
 -- 1, 2, 3, 5, 35 and 6, which ask of kept bytes alone
 unfoldable pub header_kept : List ℕ → Bool
@@ -28,7 +27,7 @@ nodes_before img b (suc i) = held_nodes img b i
 
 -- 9 to 12 of page i of band b
 abbrev pub SoundPage : List ℕ → ℕ → ℕ → Type 0
-SoundPage img b i = All Yes (questions_after (held_roots img b i) (page_pairs img b i) (nodes_before img b i))
+SoundPage img b i = All Yes (row_questions (held_roots img b i) (page_pairs img b i) (nodes_before img b i))
 
 -- 7: no pages at all; or one root in band 1, and then 13 gives every other band roots, and so pages
 pub data SoundTop (img : List ℕ) : Type 0 where
