@@ -1,7 +1,6 @@
 -- `random_lists::ask::places` meets its contract. Assumes nothing.
 use Prim.Native.Nat.{◌-◌, ◌≤◌}
 use lib.ListN.{length}
-use borrow.Author.Rules.{rules}
 use Rattle.random_lists.proofs.ask.places.Given as goal
 
 abbrev pub invariant-loop-i : goal.invariant-loop-i

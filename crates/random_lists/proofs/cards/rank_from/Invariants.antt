@@ -1,7 +1,6 @@
 -- `random_lists::cards::rank_from` meets its contract. Assumes nothing.
 use Prim.Native.Nat.{◌-◌, ◌≤◌}
 use lib.ListN.{length}
-use borrow.Author.Rules.{rules}
 use Rattle.random_lists.proofs.cards.rank_from.Given as goal
 
 abbrev pub invariant-loop-i : goal.invariant-loop-i

@@ -1,6 +1,5 @@
 -- `random_lists::pairs::pairs` meets its contract. Assumes nothing.
 use Prim.Native.Nat.{◌-◌, ◌≤◌}
-use borrow.Author.Rules.{rules}
 use Rattle.random_lists.proofs.pairs.pairs.Given as goal
 
 abbrev pub invariant-loop-i : goal.invariant-loop-i

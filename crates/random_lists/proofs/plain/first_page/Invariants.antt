@@ -1,6 +1,5 @@
 -- `random_lists::plain::first_page` meets its contract. Assumes nothing.
 use Prim.Native.Nat.{◌-◌, ◌≤◌}
-use borrow.Author.Rules.{rules}
 use Rattle.random_lists.proofs.plain.first_page.Given as goal
 
 abbrev pub invariant-loop-passed : goal.invariant-loop-passed

@@ -1,6 +1,5 @@
 -- `random_lists::plain::lacking_bands` meets its contract. Assumes nothing.
 use Prim.Native.Nat.{◌-◌, ◌≤◌}
-use borrow.Author.Rules.{rules}
 use Rattle.random_lists.proofs.plain.lacking_bands.Given as goal
 
 abbrev pub invariant-loop-band : goal.invariant-loop-band

@@ -1,6 +1,5 @@
 -- `random_lists::plain::on_bits` meets its contract. Assumes nothing.
 use Prim.Native.Nat.{◌-◌, ◌≤◌}
-use borrow.Author.Rules.{rules}
 use Rattle.random_lists.proofs.plain.on_bits.Given as goal
 
 abbrev pub invariant-loop-at : goal.invariant-loop-at

@@ -1,6 +1,5 @@
 -- `random_lists::steps::empty_nodes` meets its contract. Assumes nothing.
 use Prim.Native.Nat.{◌-◌, ◌≤◌}
-use borrow.Author.Rules.{rules}
 use Rattle.random_lists.proofs.steps.empty_nodes.Given as goal
 
 abbrev pub invariant-loop-node : goal.invariant-loop-node

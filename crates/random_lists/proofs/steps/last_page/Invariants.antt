@@ -1,6 +1,5 @@
 -- `random_lists::steps::last_page` meets its contract. Assumes nothing.
 use Prim.Native.Nat.{◌-◌, ◌≤◌}
-use borrow.Author.Rules.{rules}
 use Rattle.random_lists.proofs.steps.last_page.Given as goal
 
 abbrev pub invariant-loop-page : goal.invariant-loop-page

@@ -1,6 +1,5 @@
 -- `random_lists::steps::walk` meets its contract. Assumes nothing.
 use Prim.Native.Nat.{◌-◌, ◌≤◌}
-use borrow.Author.Rules.{rules}
 use Rattle.random_lists.proofs.steps.walk.Given as goal
 
 abbrev pub invariant-loop-band : goal.invariant-loop-band

@@ -1,7 +1,6 @@
 -- `samples::images::all_bytes` meets its contract. Assumes nothing.
 use Prim.Native.Nat.{◌-◌, ◌≤◌}
 use lib.ListN.{length}
-use borrow.Author.Rules.{rules}
 use Rattle.samples.proofs.images.all_bytes.Given as goal
 
 abbrev pub invariant-loop-i : goal.invariant-loop-i

@@ -1,6 +1,5 @@
 -- `samples::plates::are_heads` meets its contract. Assumes nothing.
 use Prim.Native.Nat.{◌-◌, ◌≤◌}
-use borrow.Author.Rules.{rules}
 use Rattle.samples.proofs.plates.are_heads.Given as goal
 
 abbrev pub invariant-loop-i : goal.invariant-loop-i

@@ -1,6 +1,5 @@
 -- `samples::plates::later_bands_have` meets its contract. Assumes nothing.
 use Prim.Native.Nat.{◌-◌, ◌≤◌}
-use borrow.Author.Rules.{rules}
 use Rattle.samples.proofs.plates.later_bands_have.Given as goal
 
 abbrev pub invariant-loop-band : goal.invariant-loop-band
