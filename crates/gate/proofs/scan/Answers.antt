@@ -53,10 +53,9 @@ key_count-keys-requires c = header_long _ _ _ _ (is_listed _ _ c.lookup-found.en
 -- the lane, the records and the time fit
 pub holder_record-last-requires : goal.holder_record-last-requires
 holder_record-last-requires c =
-    let fit = records_fit _ _ _ _ _ _ (yes_of_none _ (none_refused _ _ c.gate_refusal-refusal.ensures c.if-refusal-ne0.false)) in (
-      image_accepted _ _ _ _ (is_listed _ _ c.lookup-found.ensures.0 c.in-Listed.is) (bytes_of c.args.image.now (λ i. (c.type_inv.image i).fits)),
-      omega (arith, fit.size, c.key_count-keys.ensures.0),
-    )
+    let fit = records_fit _ _ _ _ _ _ (yes_of_none _ (none_refused _ _ c.gate_refusal-refusal.ensures c.if-refusal-ne0.false)) in
+    let accepted = image_accepted _ _ _ _ (is_listed _ _ c.lookup-found.ensures.0 c.in-Listed.is) (bytes_of c.args.image.now (λ i. (c.type_inv.image i).fits)) in
+    (accepted, omega (arith, fit.size, c.key_count-keys.ensures.0))
 
 -- and the rank is below the key count
 pub admit-requires : goal.admit-requires
