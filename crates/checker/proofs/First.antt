@@ -1,21 +1,18 @@
 -- The first subtrie of a page, from counts of on bits before places, and question 12. Assumes nothing.
 use mathlib.Core.Path.{◌≡◌, sym, ap, ◌∙◌}
-use mathlib.Core.Bool.{false, true}
 use mathlib.Core.List.{List, [], ◌∷◌}
 use mathlib.Core.Option.{none, some}
 use Prim.Native.Nat.{ℕ, ◌+◌, ◌-◌, ◌≤◌, ◌<◌}
 use native.Mathlib.Omega.{arith}
-use lib.Dec.{ltb}
-use borrow.Author.Tests.{lt-ltb}
-use Rattle.format.specs.Seq.{All}
+use borrow.Author.Tests.{lt-ltb, le-ltb}
 use Rattle.format.specs.Page.{first_subtries, levels_in}
-use Rattle.format.specs.Question.{Yes, first_no, no_room, node_questions, questions_from_9}
+use Rattle.format.specs.Question.{first_no, no_room, node_questions, questions_from_9}
 use Rattle.format.proofs.Bytes.{length-levels_in}
 use Rattle.format.proofs.NodeQuestions.{nodes_of_lem, nodes_shape}
 use Rattle.format.proofs.Subtries.{first_shape, length_first, node_bounds}
 use Rattle.format.proofs.Counting.{marks, marks_mono, subtrie_counted, third_at}
-use Rattle.format.proofs.Questions.{after_yes, asked_no, asked_yes}
-use Rattle.nodes.specs.Words.{Gathered, ones_before, pairs_in}
+use Rattle.format.proofs.Questions.{after_yes, asked_no, asked_yes, yes_of_none}
+use Rattle.nodes.specs.Words.{ones_before, pairs_in}
 use Rattle.nodes.proofs.Pairs.{length_pairs_in, nodes_in_lem}
 use Rattle.header.specs.Refusal.{refusal_of}
 use Rattle.header.proofs.Refusals.{none_refused, refused_first}
@@ -77,26 +74,21 @@ module _ (pairs : List ℕ) (r v : ℕ) where
     past-11 = after_yes (node_questions r pairs) _ asked
 
     -- the subtrie had no room
-    pub needed : no_room v (levels_in 4 r pairs) ≡ true → Asked (questions_from_9 r pairs (no_room v (levels_in 4 r pairs))) pairs r s
-    unfolding refusal_of first_no
-    needed h = record { first_no_is = ap refusal_of z ∙ sym (past-11 ∙ asked_yes 12 _ [] h); counted = f.counted; bounded = f.bounded }
+    pub needed : 240 < first_nodes r pairs + v → Asked (questions_from_9 r pairs (no_room v (levels_in 4 r pairs))) pairs r s
+    unfolding refusal_of first_no no_room
+    needed h = record {
+      first_no_is = ap refusal_of z ∙ sym (past-11 ∙ asked_yes 12 _ [] (lt-ltb 240 (first_nodes r pairs + v) h));
+      counted = f.counted;
+      bounded = f.bounded;
+    }
 
-    pub not_needed : no_room v (levels_in 4 r pairs) ≡ false → some 12 ≡ first_no (questions_from_9 r pairs (no_room v (levels_in 4 r pairs)))
-    not_needed h = sym (past-11 ∙ asked_no 12 _ [] h)
+    pub not_needed : first_nodes r pairs + v ≤ 240 → some 12 ≡ first_no (questions_from_9 r pairs (no_room v (levels_in 4 r pairs)))
+    unfolding no_room
+    not_needed h = sym (past-11 ∙ asked_no 12 _ [] (le-ltb 240 (first_nodes r pairs + v) h))
 
--- the first subtrie has at least four nodes
-pub four_nodes : {word counts : List ℕ} (r : ℕ) → Gathered word counts → All Yes (node_questions r (pairs_in word)) → 4 ≤ first_nodes r (pairs_in word)
-four_nodes {word} {counts} r g asked =
+-- it has at least four nodes
+pub four_nodes : {word counts : List ℕ} {r : ℕ} → Known word counts r → first_no (node_questions r (pairs_in word)) ≡ none → 4 ≤ first_nodes r (pairs_in word)
+four_nodes {word} {counts} {r} k asked =
     let ps : List ℕ = pairs_in word in
-    let ok = nodes_of_lem r ps asked in
-    let shape = nodes_shape r ps (nodes_in_lem g) (length_pairs_in word) ok in
-    omega (arith, node_bounds 1 (first_subtries 1 (levels_in 4 r ps)) (length_first 1 (levels_in 4 r ps) ∙ length-levels_in 4 r ps) (first_shape 1 r (levels_in 4 r ps) ok.some_roots shape))
-
--- so after more than 236 nodes it has no room, and else its nodes tell
-pub room_full : {word counts : List ℕ} (r v : ℕ) → Gathered word counts → All Yes (node_questions r (pairs_in word)) → 236 < v → true ≡ no_room v (levels_in 4 r (pairs_in word))
-unfolding no_room
-room_full {word} {counts} r v g asked h = sym (lt-ltb 240 (first_nodes r (pairs_in word) + v) (omega (arith, four_nodes r g asked)))
-
-pub room_told : (pairs : List ℕ) (r v n : ℕ) → n ≡ first_nodes r pairs → ltb 240 (n + v) ≡ no_room v (levels_in 4 r pairs)
-unfolding no_room
-room_told pairs r v n e = ap (λ (n : ℕ). ltb 240 (n + v)) e
+    let shape = nodes_shape r ps (nodes_in_lem k.gathered) (length_pairs_in word) (nodes_of_lem r ps (yes_of_none (node_questions r ps) asked)) in
+    omega (arith, node_bounds 1 (first_subtries 1 (levels_in 4 r ps)) (length_first 1 (levels_in 4 r ps) ∙ length-levels_in 4 r ps) (first_shape 1 r (levels_in 4 r ps) k.some_roots shape))

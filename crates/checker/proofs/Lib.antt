@@ -3,6 +3,7 @@
 -- questions 8 to 12 of a page
 pub mod Shapes
 pub mod First
+pub mod Twelve
 pub mod Pages
 -- 8 to 13 page after page, and band after band
 pub mod Bands

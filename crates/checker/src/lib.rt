@@ -2,6 +2,7 @@
 #![tactic(auto)]
 
 pub mod band;
+pub mod needed;
 pub mod page;
 
 ghost use Rattle.std.specs.Prelude.{◌≡◌};

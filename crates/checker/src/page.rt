@@ -1,8 +1,7 @@
 // Questions 8 to 12 of one page.
 ghost use Rattle.std.specs.Prelude.{◌≡◌, ◌+◌, ◌-◌, ◌≤◌, length};
-ghost use Rattle.format.specs.Seq.{All};
-ghost use Rattle.format.specs.Page.{levels_in, pairs_at};
-ghost use Rattle.format.specs.Question.{Yes, no_room, node_questions};
+ghost use Rattle.format.specs.Page.{pairs_at};
+ghost use Rattle.format.specs.Question.{node_questions};
 ghost use Rattle.nodes.specs.Words.{Gathered, pairs_in};
 ghost use Rattle.checker.specs.Paged.{roots_from, third_in, fourth_in, first_nodes, questions_after, questions_at, Asked};
 
@@ -95,7 +94,7 @@ pub fn check_nodes<'a>(
 }
 
 // The nodes of the first subtrie of a page, from its words, its roots and the places where its third and fourth levels start.
-fn first_nodes<'a>(
+pub(crate) fn first_nodes<'a>(
     word: &'a [u64; 9],
     before: &'a [u16; 9],
     roots: usize,
@@ -111,26 +110,6 @@ fn first_nodes<'a>(
     1 + first2 + first3 + first4
 }
 
-// Question 12 of a page's words, with so many roots, whose third and fourth level start at these places, after a page of `previous` nodes: whether its
-// first subtrie had no room there; 9 to 11 got a yes.
-pub fn page_needed<'a>(
-    word: &'a [u64; 9],
-    before: &'a [u16; 9],
-    roots: usize,
-    third: usize,
-    fourth: usize,
-    previous: usize,
-) -> bool
-    requires { (Gathered word.now before.now) × (All Yes (node_questions roots (pairs_in word.now))) × (third ≡ third_in word.now before.now roots) × (fourth ≡ fourth_in word.now before.now roots) × (previous ≤ 241) }
-    ensures { result ≡ no_room previous (levels_in 4 roots (pairs_in word.now)) }
-{
-    // The smallest subtrie has four nodes: after so full a page none can fit.
-    if 236 < previous {
-        return true;
-    }
-    240 < first_nodes(word, before, roots, third, fourth) + previous
-}
-
 // Questions 10 to 12 of the page at `at` with so many roots, after a page of `previous` nodes; 9 got a yes.
 fn check_shape(image: &[u8], at: usize, roots: usize, previous: usize) -> Shape
     requires { (at + 64 ≤ length image.now) × (1 ≤ roots) × (roots ≤ 60) × (previous ≤ 241) }
@@ -143,7 +122,11 @@ fn check_shape(image: &[u8], at: usize, roots: usize, previous: usize) -> Shape
     if found.refusal != 0 {
         return found;
     }
-    if !page_needed(&words.word, &words.before, roots, third, fourth, previous) {
+    // The smallest subtrie has four nodes: after so full a page none can fit.
+    if 236 < previous {
+        return found;
+    }
+    if first_nodes(&words.word, &words.before, roots, third, fourth) + previous <= 240 {
         return refused(12);
     }
     found

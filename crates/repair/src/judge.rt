@@ -6,7 +6,7 @@ ghost use Rattle.repair.specs.Sound.{header_kept};
 ghost use Rattle.repair.specs.Inner.{PageHeld, BandReady, BandJudged, Judged};
 
 use crate::roots::only_roots;
-use checker::page::page_needed;
+use checker::needed::page_needed;
 use format::{OutLink, Root, cross};
 use header::{lift_right, mark_right, page_count, total_pages, version_known, zeros_right};
 

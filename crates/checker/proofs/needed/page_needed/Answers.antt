@@ -1,7 +1,7 @@
--- `checker::page::page_needed` meets its contract. Assumes nothing.
+-- `checker::needed::page_needed` meets its contract. Assumes nothing.
 use Rattle.format.proofs.NodeQuestions.{nodes_of_lem}
-use Rattle.checker.proofs.First.{room_full, room_told}
-use Rattle.checker.proofs.page.page_needed.Goals as goal
+use Rattle.checker.proofs.Twelve.{room_full, room_told}
+use Rattle.checker.proofs.needed.page_needed.Goals as goal
 
 pub returns-then-previous-gt236 : goal.returns-then-previous-gt236
 returns-then-previous-gt236 c = room_full _ _ c.requires.0 c.requires.1 c.if-previous-gt236.true
