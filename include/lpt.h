@@ -16,7 +16,7 @@
  * Every function that takes an image checks all of it first, so that there is no need to call lpt_check before, but
  * two: lpt_lookup8 checks the header and the eight pages that it reads, and no more; lpt_repair is for damaged images.
  *
- * Stack, measured on 4,096 random admissions on x86-64: lpt_add and lpt_withdraw 34,336 bytes (two arrays of 4,096
+ * Stack, as the older Rattle compiled it, on 4,096 random admissions on x86-64: lpt_add and lpt_withdraw 34,336 bytes (two arrays of 4,096
  * numbers), lpt_write 17,088, lpt_write_keys 16,976, lpt_list 2,872, lpt_count 2,840, lpt_scan 2,192, lpt_find 680,
  * lpt_lookup 672, lpt_lookup8 624, lpt_key 544, lpt_check and lpt_lift 440, lpt_admission_of 88.
  */
