@@ -1,3 +1,4 @@
+-- The loop of `damage::say_questions`: no question has a number above 41. Assumes nothing.
 use Rattle.std.proofs.Common.{◌-◌, ◌≤◌}
 use Rattle.damage.proofs.say_questions.Given as goal
 

@@ -1,3 +1,4 @@
+-- The loop of `damage::survey_byte`: the image keeps its length, and the bit moves down. Assumes nothing.
 use Rattle.std.proofs.Common.{◌≡◌, length}
 use Rattle.damage.proofs.survey_byte.Given as goal
 

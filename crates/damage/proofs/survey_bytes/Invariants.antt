@@ -1,3 +1,4 @@
+-- The loop of `damage::survey_bytes`: the place is not past the end, and the image keeps its length. Assumes nothing.
 use Rattle.std.proofs.Common.{◌-◌, ◌≡◌, ◌≤◌, length}
 use Rattle.damage.proofs.survey_bytes.Given as goal
 

@@ -1,3 +1,4 @@
+-- The loop of `input::read_full`: the bytes at the buffer's start, `done` of them, are those that the reader gave so far. Assumes nothing.
 use Rattle.std.proofs.Common.{length, ◌-◌, ◌≡◌, ◌≤◌, take}
 use Rattle.std.specs.Io.KnownBytes.{Consumes}
 use Rattle.input.proofs.read_full.Given as goal

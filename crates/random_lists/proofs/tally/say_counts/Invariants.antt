@@ -1,3 +1,4 @@
+-- The loop of `random_lists::tally::say_counts` goes up from the first count. Assumes nothing.
 use Rattle.std.proofs.Common.{◌-◌, ◌≤◌}
 use Rattle.random_lists.proofs.tally.say_counts.Given as goal
 

@@ -1,3 +1,4 @@
+-- The loop of `random_lists::tally::say_refusals`: no question has a number above 41. Assumes nothing.
 use Rattle.std.proofs.Common.{◌-◌, ◌≤◌}
 use Rattle.random_lists.proofs.tally.say_refusals.Given as goal
 
