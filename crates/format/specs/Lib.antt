@@ -16,6 +16,8 @@ pub mod Header
 pub mod Image
 -- the numbered questions, and 1 to 13 with 35
 pub mod Question
+-- a refusal's number, and the answer of a job that may refuse
+pub mod Refusal
 -- the image of a list, and the writer's questions and answer
 pub mod Writer
 -- check, lift, lookup, count, listing and finding by rank
