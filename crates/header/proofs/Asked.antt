@@ -12,7 +12,7 @@ use Rattle.format.specs.Page.{number_at}
 use Rattle.format.specs.Image.{bands, version_of, lift_of, key_count, page_count, root_count}
 use Rattle.format.specs.Question.{is_zero, is_positive, is_lift, version_known, zeros_right, lift_right, counts_fit}
 use Rattle.format.proofs.Checked.{cond_yes, cond_no}
-use Rattle.header.specs.Refusal.{counts_positive}
+use Rattle.header.specs.Counts.{counts_positive}
 use Rattle.header.proofs.Turns.{every-yes, every_no, numbers_next, zero_counts}
 
 -- ---- 5, byte by byte, 3 and 35

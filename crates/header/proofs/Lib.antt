@@ -1,5 +1,5 @@
 -- Laws for the header's questions. Each file's head says its subject; a file uses only those above it.
 pub mod Turns
 pub mod Asked
--- the number of a refusal, for the crates above
-pub mod Refusals
+-- which question is the first that gets a no
+pub mod First

@@ -1,25 +1,22 @@
 // The header's numbers, which every job reads through these functions, and questions 1 to 7 with 35.
 #![tactic(auto)]
 
-ghost use Rattle.std.specs.Prelude.{◌≡◌, map, ◌+◌, ◌-◌, ◌%◌, ◌≤◌, ◌<◌, length, take, drop};
+ghost use Rattle.std.specs.Prelude.{◌≡◌, map, ◌+◌, ◌*◌, ◌-◌, ◌%◌, ◌≤◌, ◌<◌, length, take, drop};
 ghost use Rattle.format.specs.Seq.{every, numbers_from, total};
 ghost use Rattle.format.specs.Page.{number_at};
-ghost use Rattle.format.specs.Image.{bands, version_of, lift_of, key_count, page_count, page_number, root_count};
+ghost use Rattle.format.specs.Image.{bands, version_of, lift_of, key_count, page_count, page_number, pages_before, root_count};
 ghost use Rattle.format.specs.Question.{is_zero, mark_right, version_known, zeros_right, lift_right, counts_fit, header_questions, first_no, out_links_due};
-ghost use Rattle.header.specs.Refusal.{refusal_of, counts_positive};
+ghost use Rattle.format.specs.Refusal.{refusal_of};
+ghost use Rattle.header.specs.Counts.{counts_positive};
 
-fn wide(byte: u8) -> usize
-    ensures { (result ≡ byte) × (result < 256) }
-{
-    byte as usize
-}
+use format::Refusal;
 
 // The number of two bytes at `at`, the higher byte first.
 pub fn number(bytes: &[u8], at: usize) -> usize
     requires { at + 2 ≤ length bytes.now }
     ensures { (result ≡ number_at bytes.now at) × (result < 65536) }
 {
-    256 * wide(bytes[at]) + wide(bytes[at + 1])
+    usize::from(u16::from_be_bytes([bytes[at], bytes[at + 1]]))
 }
 
 // The version.
@@ -76,19 +73,24 @@ pub fn links_due(image: &[u8], band: usize) -> usize
     key_count(image)
 }
 
+// The pages of the bands before band `band`, from 1 to 9.
+fn pages_before(image: &[u8], band: usize) -> usize
+    requires { (64 ≤ length image.now) × (1 ≤ band) × (band ≤ 9) }
+    ensures { (result ≡ pages_before image.now band) × (result + 65535 ≤ 65535 * band) }
+{
+    let mut pages = 0;
+    for passed in 1..band {
+        pages += page_count(image, passed);
+    }
+    pages
+}
+
 // The pages of all bands.
 pub fn total_pages(image: &[u8]) -> usize
     requires { 64 ≤ length image.now }
     ensures { (result ≡ total (map (page_count image.now) bands)) × (result < 524288) }
 {
-    page_count(image, 1)
-        + page_count(image, 2)
-        + page_count(image, 3)
-        + page_count(image, 4)
-        + page_count(image, 5)
-        + page_count(image, 6)
-        + page_count(image, 7)
-        + page_count(image, 8)
+    pages_before(image, 9)
 }
 
 // The number in the image of the first page of band `band`, from 1 to 8.
@@ -96,28 +98,14 @@ pub fn first_page(image: &[u8], band: usize) -> usize
     requires { (64 ≤ length image.now) × (1 ≤ band) × (band ≤ 8) }
     ensures { (result ≡ page_number image.now band 0) × (result ≤ 524288) }
 {
-    let mut first = 1;
-    let mut passed = 1;
-    while passed < band {
-        first += page_count(image, passed);
-        passed += 1;
-    }
-    first
+    1 + pages_before(image, band)
 }
 
-// Whether the bytes from `from` up to `to`, two at a time, are zero.
-fn all_zero(bytes: &[u8], from: usize, to: usize) -> bool
-    requires { (from ≤ to) × ((to - from) % 2 ≡ 0) × (to ≤ length bytes.now) }
-    ensures { result ≡ every is_zero (take (to - from) (drop from bytes.now)) }
+// Whether the bytes are zero.
+fn all_zero(bytes: &[u8]) -> bool
+    ensures { result ≡ every is_zero bytes.now }
 {
-    let mut i = from;
-    while i < to {
-        if number(bytes, i) != 0 {
-            return false;
-        }
-        i += 2;
-    }
-    true
+    bytes.iter().all(|b| *b == 0)
 }
 
 // Question 2: whether bytes 0 to 2 are 4C 50 54.
@@ -154,12 +142,12 @@ pub fn zeros_right(image: &[u8]) -> bool
         return false;
     }
     if version(image) == 2 {
-        return all_zero(image, 42, 64);
+        return all_zero(&image[42..64]);
     }
     if number(image, 40) != 0 {
         return false;
     }
-    all_zero(image, 42, 64)
+    all_zero(&image[42..64])
 }
 
 // Question 35: whether the lift of version 2 is 1 to 999.
@@ -179,15 +167,13 @@ fn counts_positive(image: &[u8]) -> bool
     requires { 64 ≤ length image.now }
     ensures { result ≡ every (counts_positive image.now) (numbers_from 2 7) }
 {
-    let mut band = 2;
-    while band <= 8 {
+    for band in 2..9 {
         if page_count(image, band) < 1 {
             return false;
         }
         if root_count(image, band) < 1 {
             return false;
         }
-        band += 1;
     }
     true
 }
@@ -198,7 +184,7 @@ fn counts_fit(image: &[u8]) -> bool
     ensures { result ≡ counts_fit image.now }
 {
     if key_count(image) == 0 {
-        return all_zero(image, 8, 40);
+        return all_zero(&image[8..40]);
     }
     if page_count(image, 1) != 1 {
         return false;
@@ -209,33 +195,33 @@ fn counts_fit(image: &[u8]) -> bool
     counts_positive(image)
 }
 
-// The number of the first question of 1 to 5, 35, 6 and 7 that gets a no, 0 where none does.
-pub fn header_refusal(image: &[u8]) -> u8
+// The first question of 1 to 5, 35, 6 and 7 that gets a no.
+pub fn header_refusal(image: &[u8]) -> Result<(), Refusal>
     ensures { refusal_of result ≡ first_no (header_questions image.now) }
 {
     if image.len() < 64 {
-        return 1;
+        return Err(Refusal::Header);
     }
     if !mark_right(image) {
-        return 2;
+        return Err(Refusal::Mark);
     }
     if !version_known(image) {
-        return 3;
+        return Err(Refusal::Version);
     }
     if 4096 < key_count(image) {
-        return 4;
+        return Err(Refusal::KeyCount);
     }
     if !zeros_right(image) {
-        return 5;
+        return Err(Refusal::ZeroBytes);
     }
     if !lift_right(image) {
-        return 35;
+        return Err(Refusal::Lift);
     }
     if image.len() != 64 * (1 + total_pages(image)) {
-        return 6;
+        return Err(Refusal::Length);
     }
     if !counts_fit(image) {
-        return 7;
+        return Err(Refusal::BandCounts);
     }
-    0
+    Ok(())
 }

@@ -3,7 +3,7 @@ use mathlib.Core.Path.{◌≡◌, refl, sym, ap, ◌∙◌}
 use Prim.Native.Nat.{ℕ, ◌-◌}
 use native.Mathlib.Omega.{arith}
 use Rattle.format.specs.Seq.{every, numbers_from}
-use Rattle.header.specs.Refusal.{counts_positive}
+use Rattle.header.specs.Counts.{counts_positive}
 use Rattle.header.proofs.Asked.{positive_no, positive_next, few_pages, few_roots, some_counts}
 use Rattle.header.proofs.counts_positive.Goals as goal
 
