@@ -2,44 +2,33 @@
 // over the page is then taken from one word.
 #![tactic(auto)]
 
-ghost use Rattle.std.specs.Prelude.{◌≡◌, [], ◌∷◌, ◌+◌, ◌*◌, ◌≤◌, ◌<◌, length, get_or};
+ghost use Rattle.std.specs.Prelude.{◌≡◌, [], ◌∷◌, ◌+◌, ◌-◌, ◌*◌, ◌/◌, ◌%◌, ◌^◌, ◌≤◌, ◌<◌, eqb, length, get_or};
 ghost use Rattle.std.specs.Int.Count.{ones};
-ghost use Rattle.nodes.specs.Words.{half_at, word_at, words_of, counts_before, ones_before, ones_through, rest_empty, node_in, used_nodes, none_empty};
+ghost use Rattle.nodes.specs.Words.{half_at, word_at, words_of, counts_before, ones_before, ones_through, rest_empty, node_in, low_bits, used_nodes, none_empty};
 
 // A page's nodes, the first in the highest bits: 16 in the low half of word 0, 32 in each of words 1 to 7; word 8 is 0. `before` has the on bits of
 // the words before each.
-#[derive(Drop)]
+#[derive(Debug, PartialEq, Eq, Drop)]
 pub struct Words {
     pub word: [u64; 9],
     pub before: [u16; 9],
 }
 
-// The number of set bits of `w`.
+// The lowest bit of each node of a word.
+const LOW_BITS: u64 = 0x5555_5555_5555_5555;
+
+// The number of set bits of `w`, as the counts before words have it.
 fn ones_of(w: u64) -> u16
     ensures { (result ≡ ones w) × (result ≤ 64) }
 {
-    u64::count_ones(w) as u16
-}
-
-// A count as a `usize`, as places are.
-pub fn wide(x: u16) -> usize
-    ensures { (result ≡ x) × (result < 65536) }
-{
-    x as usize
+    w.count_ones() as u16
 }
 
 // The number of set bits of `w`, as a `usize`.
 pub fn ones_in(w: u64) -> usize
     ensures { (result ≡ ones w) × (result ≤ 64) }
 {
-    wide(ones_of(w))
-}
-
-// Four bytes as one number, the first the highest.
-fn join4(a: u8, b: u8, c: u8, d: u8) -> u64
-    ensures { (result ≡ ((a * 256 + b) * 256 + c) * 256 + d) × (result < 4294967296) }
-{
-    (((a as u64) * 256 + (b as u64)) * 256 + (c as u64)) * 256 + (d as u64)
+    w.count_ones() as usize
 }
 
 // Four bytes of `s` as one number, the first the highest.
@@ -47,7 +36,7 @@ fn half(s: &[u8], at: usize) -> u64
     requires { at + 4 ≤ length s.now }
     ensures { (result ≡ half_at s.now at) × (result < 4294967296) }
 {
-    join4(s[at], s[at + 1], s[at + 2], s[at + 3])
+    u64::from(u32::from_be_bytes([s[at], s[at + 1], s[at + 2], s[at + 3]]))
 }
 
 // Eight bytes of `s` as one number, the first the highest: from two halves, each of which is compiled to one load.
@@ -55,7 +44,7 @@ pub fn word(s: &[u8], at: usize) -> u64
     requires { at + 8 ≤ length s.now }
     ensures { result ≡ word_at s.now at }
 {
-    half(s, at) * 4294967296 + half(s, at + 4)
+    (half(s, at) << 32) + half(s, at + 4)
 }
 
 // The set bits of the words before each of eight words and the one after them.
@@ -93,97 +82,109 @@ pub fn gather(bytes: &[u8], at: usize) -> Words
     }
 }
 
-// The on bits of the first `n` nodes.
-pub fn on_bits_before<'a>(word: &'a [u64; 9], before: &'a [u16; 9], n: usize) -> usize
-    requires { n ≤ 240 }
-    ensures { (result ≡ ones_before word.now before.now n) × (result < 65600) }
-{
-    let place = n + 16;
-    let j = place / 32;
-    let passed = before[j];
-    wide(passed) + ones_in((word[j] >> 1) >> (63 - 2 * (place % 32)))
-}
-
-// The on bits of the first `n` nodes and of node `n` itself.
-pub fn on_bits_through<'a>(word: &'a [u64; 9], before: &'a [u16; 9], n: usize) -> usize
-    requires { n < 240 }
-    ensures { (result ≡ ones_through word.now before.now n) × (result < 65600) }
-{
-    let place = n + 16;
-    let j = place / 32;
-    let passed = before[j];
-    wide(passed) + ones_in(word[j] >> (62 - 2 * (place % 32)))
-}
-
-// The on bits of all nodes.
-pub fn on_bits(before: &[u16; 9]) -> usize
-    ensures { (result ≡ get_or before.now 8 0) × (result < 65536) }
-{
-    wide(before[8])
-}
-
-// Node `n`: 2 for its first bit, 1 for its second, 3 for both, 0 for neither.
-pub fn node_at(word: &[u64; 9], n: usize) -> u64
-    requires { n < 240 }
-    ensures { (result ≡ node_in word.now n) × (result < 4) }
-{
-    let place = n + 16;
-    (word[place / 32] >> (62 - 2 * (place % 32))) % 4
-}
-
-// Whether the nodes from `n` on are all 00. In a nearly full page word 7 alone tells.
-pub fn rest_empty<'a>(word: &'a [u64; 9], before: &'a [u16; 9], n: usize) -> bool
-    requires { n ≤ 240 }
-    ensures { result ≡ rest_empty word.now before.now n }
-{
-    if 208 < n {
-        let shift = 64 - 2 * (n - 208);
-        return (word[7] >> shift) << shift == word[7];
-    }
-    on_bits_before(word, before, n) == on_bits(before)
-}
-
 // The low bit of each node of `w` that is not 00.
 fn used_nodes(w: u64) -> u64
     ensures { result ≡ used_nodes w }
 {
-    (w | (w >> 1)) & 0x5555_5555_5555_5555
+    (w | (w >> 1)) & LOW_BITS
 }
 
-// Whether none of the nodes of words 0 to 6 is 00, nor of the first `k` of word 7: without a loop, since most pages are nearly full.
-fn none_empty_late(word: &[u64; 9], k: usize) -> bool
+// Whether none of the first `k` nodes of `w` is 00.
+fn first_used(w: u64, k: usize) -> bool
     requires { (0 < k) × (k ≤ 32) }
-    ensures { result ≡ none_empty word.now (208 + k) }
+    ensures { result ≡ eqb (used_nodes (w / 2 ^ (64 - 2 * k))) (low_bits / 2 ^ (64 - 2 * k)) }
 {
-    let a = used_nodes(word[0] | 0xffff_ffff_0000_0000) & used_nodes(word[1]);
-    let b = used_nodes(word[2]) & used_nodes(word[3]);
-    let c = used_nodes(word[4]) & used_nodes(word[5]);
-    if (a & b) & (c & used_nodes(word[6])) != 0x5555_5555_5555_5555 {
-        return false;
-    }
     let shift = 64 - 2 * k;
-    used_nodes(word[7] >> shift) == 0x5555_5555_5555_5555 >> shift
+    used_nodes(w >> shift) == LOW_BITS >> shift
 }
 
-// Whether none of the first `n` nodes is 00.
-pub fn none_empty(word: &[u64; 9], n: usize) -> bool
+// The word of node `n`, and the node's place in it.
+fn place_of(n: usize) -> (usize, usize)
     requires { n ≤ 240 }
-    ensures { result ≡ none_empty word.now n }
+    ensures { (result.0 ≡ (n + 16) / 32) × (result.1 ≡ (n + 16) % 32) }
 {
-    if 208 < n {
-        return none_empty_late(word, n - 208);
+    ((n + 16) / 32, (n + 16) % 32)
+}
+
+impl Words {
+    // The on bits of the first `n` nodes.
+    pub fn on_bits_before(&self, n: usize) -> usize
+        requires { n ≤ 240 }
+        ensures { (result ≡ ones_before self.now.word self.now.before n) × (result < 65600) }
+    {
+        let (j, k) = place_of(n);
+        usize::from(self.before[j]) + ones_in((self.word[j] >> 1) >> (63 - 2 * k))
     }
-    let mut left = n + 16;
-    let mut j = 0;
-    let mut w = word[0] | 0xffff_ffff_0000_0000;
-    while 32 < left {
-        if used_nodes(w) != 0x5555_5555_5555_5555 {
-            return false;
+
+    // The on bits of the first `n` nodes and of node `n` itself.
+    pub fn on_bits_through(&self, n: usize) -> usize
+        requires { n < 240 }
+        ensures { (result ≡ ones_through self.now.word self.now.before n) × (result < 65600) }
+    {
+        let (j, k) = place_of(n);
+        usize::from(self.before[j]) + ones_in(self.word[j] >> (62 - 2 * k))
+    }
+
+    // The on bits of all nodes.
+    pub fn on_bits(&self) -> usize
+        ensures { (result ≡ get_or self.now.before 8 0) × (result < 65536) }
+    {
+        usize::from(self.before[8])
+    }
+
+    // Node `n`: 2 for its first bit, 1 for its second, 3 for both, 0 for neither.
+    pub fn node_at(&self, n: usize) -> u64
+        requires { n < 240 }
+        ensures { (result ≡ node_in self.now.word n) × (result < 4) }
+    {
+        let (j, k) = place_of(n);
+        (self.word[j] >> (62 - 2 * k)) % 4
+    }
+
+    // Whether the nodes from `n` on are all 00. In a nearly full page word 7 alone tells.
+    pub fn rest_empty(&self, n: usize) -> bool
+        requires { n ≤ 240 }
+        ensures { result ≡ rest_empty self.now.word self.now.before n }
+    {
+        if 208 < n {
+            let shift = 64 - 2 * (n - 208);
+            return (self.word[7] >> shift) << shift == self.word[7];
         }
-        left -= 32;
-        j += 1;
-        w = word[j];
+        self.on_bits_before(n) == self.on_bits()
     }
-    let shift = 64 - 2 * left;
-    used_nodes(w >> shift) == 0x5555_5555_5555_5555 >> shift
+
+    // Whether none of the first `n` nodes is 00.
+    pub fn none_empty(&self, n: usize) -> bool
+        requires { n ≤ 240 }
+        ensures { result ≡ none_empty self.now.word n }
+    {
+        if 208 < n {
+            return self.none_empty_late(n - 208);
+        }
+        let mut left = n + 16;
+        let mut w = self.word[0] | 0xffff_ffff_0000_0000;
+        for next in &self.word[1..] {
+            if left <= 32 {
+                break;
+            }
+            if used_nodes(w) != LOW_BITS {
+                return false;
+            }
+            left -= 32;
+            w = *next;
+        }
+        first_used(w, left)
+    }
+
+    // Whether none of the nodes of words 0 to 6 is 00, nor of the first `k` of word 7: without a loop, since most pages are nearly full.
+    fn none_empty_late(&self, k: usize) -> bool
+        requires { (0 < k) × (k ≤ 32) }
+        ensures { result ≡ none_empty self.now.word (208 + k) }
+    {
+        let w = &self.word;
+        let a = used_nodes(w[0] | 0xffff_ffff_0000_0000) & used_nodes(w[1]);
+        let b = used_nodes(w[2]) & used_nodes(w[3]);
+        let c = used_nodes(w[4]) & used_nodes(w[5]);
+        (a & b) & (c & used_nodes(w[6])) == LOW_BITS && first_used(w[7], k)
+    }
 }

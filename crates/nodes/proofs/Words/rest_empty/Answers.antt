@@ -1,10 +1,10 @@
--- `nodes::rest_empty` meets its contract. Assumes nothing.
+-- `nodes::Words::rest_empty` meets its contract. Assumes nothing.
 use mathlib.Core.Path.{sym, ap₂, ◌∙◌}
 use borrow.Author.Tests.{lt-ltb, le-ltb}
 use lib.Dec.{eqb}
 use Rattle.format.proofs.Checked.{cond_yes, cond_no}
 use Rattle.nodes.specs.Words.{rest_empty}
-use Rattle.nodes.proofs.rest_empty.Goals as goal
+use Rattle.nodes.proofs.Words.rest_empty.Goals as goal
 
 pub returns-then-n-gt208 : goal.returns-then-n-gt208
 unfolding rest_empty
