@@ -13,18 +13,6 @@ use Rattle.format.specs.Exact as exact
 use Rattle.format.proofs.Checked.{checked}
 use Rattle.format.proofs.Accepted.{yes_of_returned}
 use Rattle.format.proofs.Questions.{after_no, after_yes}
-use Rattle.checker.specs.declared.Checked.{Checked}
-use Rattle.checker.specs.declared.Checked.TheVariants.{Accepted, Refused}
-use Rattle.checker.specs.Outcomes.{outcome_of}
-
--- the answer by its cases
-pub answer_refused : (img : List ℕ) (n : ℕ) {answer : Checked} → outcome_of answer ≡ check img → answer ≡ Refused n → refused n ≡ check img
-unfolding outcome_of
-answer_refused img n e f = sym (ap outcome_of f) ∙ e
-
-pub answer_accepted : (img : List ℕ) (n : ℕ) {answer : Checked} → outcome_of answer ≡ check img → answer ≡ Accepted n → returns n ≡ check img
-unfolding outcome_of
-answer_accepted img n e f = sym (ap outcome_of f) ∙ e
 
 module _ (img : List ℕ) (n : ℕ) where
   -- ---- a refusal

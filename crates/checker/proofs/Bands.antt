@@ -21,8 +21,7 @@ use Rattle.format.proofs.Lists.{and_left, and_right, total_next}
 use Rattle.format.proofs.Read.{pages_within}
 use Rattle.format.proofs.Questions.{after_no, after_yes, asked_no, asked_yes, next_turn, no_at_turn, yes_of_none}
 use Rattle.checker.specs.declared.page.Shape.{Shape}
-use Rattle.header.specs.Refusal.{refusal_of}
-use Rattle.header.proofs.Refusals.{none_refused}
+use Rattle.std.specs.Prelude.{Ok}
 use Rattle.checker.specs.Paged.{questions_after, questions_at, Asked, BandAt}
 
 -- ---- what the pages before page i of band b ask of its T and B, and the nodes of the page before it: 241 before a band's first page
@@ -78,10 +77,9 @@ module _ (img : List ℕ) (b : ℕ) where
       right n = unfold questions_at page_t in asked_no 8 _ _ (ap (◌&& eqb (number_at img (64 * page_number img b i + 2)) (b_due img b i)) (ne_eqb (page_t img b i) (t_due img b i) n))
 
   -- what a yes throughout says of page i, with s as its counts
-  module _ (i : ℕ) (h : i < page_count img b) (s : Shape) (asked : Asked (placed img b i) (page_pairs img b i) (next_t img b i - t_due img b i) s)
-      (fine : s.refusal ≡ 0) where
+  module _ (i : ℕ) (h : i < page_count img b) (s : Shape) (asked : Asked (placed img b i) (page_pairs img b i) (next_t img b i - t_due img b i) (Ok s)) where
     all_yes : first_no (placed img b i) ≡ none
-    all_yes = none_refused s.refusal (placed img b i) asked.first_no_is fine
+    all_yes = sym asked.first_no_is
 
     eight : eqb (page_t img b i) (t_due img b i) && eqb (page_b img b i) (b_due img b i) ≡ true
     unfolding questions_at page_t page_b
@@ -99,11 +97,11 @@ module _ (img : List ℕ) (b : ℕ) where
 
     pub links_counted : s.links ≡ out_link_count img b i
     unfolding out_link_count page_levels
-    links_counted = (asked.counted fine).links_are ∙ ap (λ (n : ℕ). on_bits (get_or (levels_in 4 n (page_pairs img b i)) 3 [])) roots_are
+    links_counted = asked.counted.links_are ∙ ap (λ (n : ℕ). on_bits (get_or (levels_in 4 n (page_pairs img b i)) 3 [])) roots_are
 
     pub nodes_counted : s.nodes ≡ page_nodes img b i
     unfolding page_nodes page_levels
-    nodes_counted = (asked.counted fine).nodes_are ∙ ap (λ (n : ℕ). node_count n (levels_in 4 n (page_pairs img b i))) roots_are
+    nodes_counted = asked.counted.nodes_are ∙ ap (λ (n : ℕ). node_count n (levels_in 4 n (page_pairs img b i))) roots_are
 
     pub page_yes : first_no (page_questions img b i) ≡ none
     page_yes = page_first i h ∙ all_yes
@@ -134,39 +132,39 @@ asking_start img b = record {
 }
 
 -- a no of turn i, where those before got a yes, is the first of all
-pub loop_no : (f : ℕ → List Question) (i n x : ℕ) (rs : List Question) → i < n → first_no (flat_map f (up_to i)) ≡ none → (x ≡ 0 → ⊥) → refusal_of x ≡ first_no (f i)
-    → refusal_of x ≡ first_no (flat_map f (up_to n) ++ rs)
-unfolding refusal_of
-loop_no f i n zero rs h so_far nonzero e = absurd (nonzero refl)
-loop_no f i n (suc x) rs h so_far nonzero e = sym (after_no (flat_map f (up_to n)) rs (suc x) (no_at_turn f i n (suc x) h so_far (sym e)))
+pub loop_no : (f : ℕ → List Question) (i n x : ℕ) (rs : List Question) → i < n → first_no (flat_map f (up_to i)) ≡ none → some x ≡ first_no (f i)
+    → some x ≡ first_no (flat_map f (up_to n) ++ rs)
+loop_no f i n x rs h so_far e = sym (after_no (flat_map f (up_to n)) rs x (no_at_turn f i n x h so_far (sym e)))
 
 module _ (img : List ℕ) (b i t links nodes : ℕ) (a : Asking img b i t links nodes) where
-  module _ (h : i < page_count img b) (at next : ℕ) (place : at ≡ 64 * page_number img b i) (next_is : next ≡ next_t img b i) (s : Shape)
-      (asked : Asked (questions_at img at t links next nodes) (pairs_at img at) (next - t) s) where
-    placed-asked : Asked (placed img b i) (page_pairs img b i) (next_t img b i - t_due img b i) s
-    unfolding page_pairs
-    placed-asked = rw (place, a.t_due_is, a.links_due, next_is, a.nodes_due_is) at asked
-
-    pub asking_no : (s.refusal ≡ 0 → ⊥) → refusal_of s.refusal ≡ first_no (band_questions img b)
+  module _ (h : i < page_count img b) (at next : ℕ) (place : at ≡ 64 * page_number img b i) (next_is : next ≡ next_t img b i) where
+    pub asking_no : (x : ℕ) → some x ≡ first_no (questions_at img at t links next nodes) → some x ≡ first_no (band_questions img b)
     unfolding band_questions
-    asking_no n = loop_no (page_questions img b) i (page_count img b) s.refusal _ h a.so_far n (placed-asked.first_no_is ∙ sym (page_first img b i h))
+    asking_no x e =
+        let placed-no : some x ≡ first_no (placed img b i) = rw (place, a.t_due_is, a.links_due, next_is, a.nodes_due_is) at e in
+        loop_no (page_questions img b) i (page_count img b) x _ h a.so_far (placed-no ∙ sym (page_first img b i h))
 
-    pub asking_next : s.refusal ≡ 0 → Asking img b (i + 1) next (links + s.links) s.nodes
-    asking_next fine =
-        let more : total (map (out_link_count img b) (up_to (i + 1))) ≡ total (map (out_link_count img b) (up_to i)) + out_link_count img b i =
-        unfold up_to in ap (λ (n : ℕ). total (map (out_link_count img b) (numbers_from 0 n))) (add-one i) ∙ total_next (out_link_count img b) 0 i ∙ ap (λ (n : ℕ). total (map (out_link_count img b) (numbers_from 0 i)) + out_link_count img b n) (zero-add i) in
-        let links_are = links_counted img b i h s placed-asked fine in
-        let b-due = b_is_lem img b i h s placed-asked fine in
-        rw (add-one i) record {
-          within = omega arith;
-          so_far = next_turn (page_questions img b) i a.so_far (page_yes img b i h s placed-asked fine);
-          t_due_is = next_is;
-          links_due = omega (arith, a.links_due);
-          links_total = omega (arith, a.links_total, rw (add-one i) at more);
-          links_few = omega (arith, a.links_few, asked.bounded.few_links);
-          nodes_due_is = nodes_counted img b i h s placed-asked fine;
-          nodes_few = omega (arith, asked.bounded.few_nodes);
-        }
+    module _ (s : Shape) (asked : Asked (questions_at img at t links next nodes) (pairs_at img at) (next - t) (Ok s)) where
+      placed-asked : Asked (placed img b i) (page_pairs img b i) (next_t img b i - t_due img b i) (Ok s)
+      unfolding page_pairs
+      placed-asked = rw (place, a.t_due_is, a.links_due, next_is, a.nodes_due_is) at asked
+
+      pub asking_next : Asking img b (i + 1) next (links + s.links) s.nodes
+      asking_next =
+          let more : total (map (out_link_count img b) (up_to (i + 1))) ≡ total (map (out_link_count img b) (up_to i)) + out_link_count img b i =
+          unfold up_to in ap (λ (n : ℕ). total (map (out_link_count img b) (numbers_from 0 n))) (add-one i) ∙ total_next (out_link_count img b) 0 i ∙ ap (λ (n : ℕ). total (map (out_link_count img b) (numbers_from 0 i)) + out_link_count img b n) (zero-add i) in
+          let links_are = links_counted img b i h s placed-asked in
+          let b-due = b_is_lem img b i h s placed-asked in
+          rw (add-one i) record {
+            within = omega arith;
+            so_far = next_turn (page_questions img b) i a.so_far (page_yes img b i h s placed-asked);
+            t_due_is = next_is;
+            links_due = omega (arith, a.links_due);
+            links_total = omega (arith, a.links_total, rw (add-one i) at more);
+            links_few = omega (arith, a.links_few, asked.bounded.few_links);
+            nodes_due_is = nodes_counted img b i h s placed-asked;
+            nodes_few = omega (arith, asked.bounded.few_nodes);
+          }
 
   -- past the last page
   module _ (h : page_count img b ≤ i) where
@@ -202,8 +200,7 @@ turn_start img b first pages roots h p r = record {
 }
 
 module _ {img : List ℕ} {b first pages roots i t links nodes : ℕ} (u : Turn img b first pages roots i t links nodes) where
-  module _ (h : i < pages) (next : ℕ) (next_is : next ≡ cond (ltb (i + 1) pages) (number_at img (64 * (first + (i + 1)))) roots) (s : Shape)
-      (asked : Asked (questions_at img (64 * (first + i)) t links next nodes) (pairs_at img (64 * (first + i))) (next - t) s) where
+  module _ (h : i < pages) (next : ℕ) (next_is : next ≡ cond (ltb (i + 1) pages) (number_at img (64 * (first + (i + 1)))) roots) where
     more : i < page_count img b
     more = omega (arith, u.pages_are)
 
@@ -218,12 +215,13 @@ module _ {img : List ℕ} {b first pages roots i t links nodes : ℕ} (u : Turn 
         ∙ ap₂ (λ (n m : ℕ). cond (ltb (i + 1) n) (number_at img (64 * (first + (i + 1)))) m) u.pages_are u.roots_are
         ∙ ap (λ (n : ℕ). cond (ltb (i + 1) (page_count img b)) (number_at img (64 * (n + (i + 1)))) (root_count img b)) u.first_is
 
-    pub turn_no : (s.refusal ≡ 0 → ⊥) → refusal_of s.refusal ≡ first_no (band_questions img b)
-    turn_no = asking_no img b i t links nodes u.asking more (64 * (first + i)) next place next-root s asked
+    pub turn_no : (x : ℕ) → some x ≡ first_no (questions_at img (64 * (first + i)) t links next nodes) → some x ≡ first_no (band_questions img b)
+    turn_no x e = asking_no img b i t links nodes u.asking more (64 * (first + i)) next place next-root x e
 
-    pub turn_next : s.refusal ≡ 0 → Turn img b first pages roots (i + 1) next (links + s.links) s.nodes
-    turn_next fine = record {
-      asking = asking_next img b i t links nodes u.asking more (64 * (first + i)) next place next-root s asked fine;
+    pub turn_next : (s : Shape) → Asked (questions_at img (64 * (first + i)) t links next nodes) (pairs_at img (64 * (first + i))) (next - t) (Ok s)
+        → Turn img b first pages roots (i + 1) next (links + s.links) s.nodes
+    turn_next s asked = record {
+      asking = asking_next img b i t links nodes u.asking more (64 * (first + i)) next place next-root s asked;
       pages_are = u.pages_are;
       roots_are = u.roots_are;
       first_is = u.first_is;
@@ -231,10 +229,9 @@ module _ {img : List ℕ} {b first pages roots i t links nodes : ℕ} (u : Turn 
     }
 
   module _ (h : pages ≤ i) (due : ℕ) (due_is : due ≡ out_links_due img b) where
-    pub turn_13 : (links ≡ due → ⊥) → refusal_of 13 ≡ first_no (band_questions img b)
-    unfolding refusal_of
+    pub turn_13 : (links ≡ due → ⊥) → some 13 ≡ first_no (band_questions img b)
     turn_13 n = asking_13 img b i t links nodes u.asking (omega (arith, u.pages_are)) (λ e. n (e ∙ sym due_is))
 
-    pub turn_end : links ≡ due → refusal_of 0 ≡ first_no (band_questions img b)
-    unfolding refusal_of first_no
+    pub turn_end : links ≡ due → none ≡ first_no (band_questions img b)
+    unfolding first_no
     turn_end e = sym (asking_end img b i t links nodes u.asking (omega (arith, u.pages_are)) (e ∙ due_is))

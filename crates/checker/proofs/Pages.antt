@@ -1,28 +1,39 @@
 -- Questions 8 to 12 of a page asked in order. Assumes nothing.
 use mathlib.Core.Path.{◌≡◌, refl, sym, ap, ap₂, subst, ◌∙◌}
 use mathlib.Core.Bool.{Bool, true, false, ◌&&◌, cond}
-use mathlib.Core.List.{List}
-use mathlib.Core.Option.{some}
-use Prim.Native.Nat.{ℕ, ◌+◌, ◌-◌, ◌≤◌, ◌<◌}
+use mathlib.Core.List.{List, []}
+use mathlib.Core.Option.{none, some}
+use Prim.Native.Nat.{ℕ, ◌+◌, ◌-◌, ◌≤◌}
 use native.Mathlib.Omega.{arith}
-use borrow.Author.Tests.{eq-eqb, ne_eqb, le-leb, lt-leb}
+use borrow.Author.Tests.{eq-eqb, ne_eqb}
 use lib.Dec.{eqb}
 use Rattle.format.specs.Page.{number_at, pairs_at}
-use Rattle.format.specs.Question.{first_no, node_questions, one_to, questions_from_9}
-use Rattle.format.proofs.Questions.{asked_no, asked_yes, of_range, range_of}
+use Rattle.format.specs.Question.{first_no, node_questions, one_to, outcome, questions_from_9, refused, returns, settle}
+use Rattle.format.proofs.Questions.{asked_no, asked_yes, range_of}
+use Rattle.std.specs.Prelude.{Result}
+use Rattle.format.specs.declared.refusal.Refusal.{Refusal}
 use Rattle.checker.specs.declared.page.Shape.{Shape}
 use Rattle.checker.specs.Paged.{roots_from, questions_after, questions_at, Asked}
 
 -- ---- 9
 
+-- the code's answer
+pub roots_refused : (t next : ℕ) → one_to 60 (next - t) ≡ false → refused 9 ≡ roots_from t next
+unfolding roots_from settle outcome
+roots_refused t next h = ap (λ o. outcome o (next - t)) (sym (asked_no 9 _ [] h))
+
+pub roots_returned : (t next : ℕ) → one_to 60 (next - t) ≡ true → returns (next - t) ≡ roots_from t next
+unfolding roots_from settle outcome first_no
+roots_returned t next h = ap (λ o. outcome o (next - t)) (sym (asked_yes 9 _ [] h))
+
 -- no root, or more than 60
-pub roots_no : (t next : ℕ) → roots_from t next ≡ 0 → one_to 60 (next - t) ≡ false
-unfolding roots_from
-roots_no t next e = go (one_to 60 (next - t)) refl e
+pub roots_no : (t next n : ℕ) → refused n ≡ roots_from t next → (n ≡ 9) × (one_to 60 (next - t) ≡ false)
+unfolding roots_from settle first_no outcome
+roots_no t next n e = go (one_to 60 (next - t)) refl e
   where
-    go : (x : Bool) → one_to 60 (next - t) ≡ x → cond x (next - t) 0 ≡ 0 → x ≡ false
-    go false f g = refl
-    go true f g = absurd (omega (arith, range_of 60 (next - t) f))
+    go : (x : Bool) → one_to 60 (next - t) ≡ x → refused n ≡ outcome (cond x none (some 9)) (next - t) → (n ≡ 9) × (x ≡ false)
+    go false f g = (cc, refl)
+    go true f g = absurd cc
 
 -- 1 to 60
 pub record RootsYes (t next roots : ℕ) : Type 0 where
@@ -30,26 +41,13 @@ pub record RootsYes (t next roots : ℕ) : Type 0 where
   pub some : 1 ≤ roots
   pub few : roots ≤ 60
 
-pub roots_yes : (t next : ℕ) {roots : ℕ} → roots ≡ roots_from t next → (roots ≡ 0 → ⊥) → RootsYes t next roots
-unfolding roots_from
-roots_yes t next {roots} e nz = go (one_to 60 (next - t)) refl e
+pub roots_yes : (t next : ℕ) {roots : ℕ} → returns roots ≡ roots_from t next → RootsYes t next roots
+unfolding roots_from settle first_no outcome
+roots_yes t next {roots} e = go (one_to 60 (next - t)) refl e
   where
-    go : (x : Bool) → one_to 60 (next - t) ≡ x → roots ≡ cond x (next - t) 0 → RootsYes t next roots
-    go false f g = absurd (nz g)
-    go true f g = let r = range_of 60 (next - t) f in record { is = g; some = omega arith; few = omega arith }
-
--- and what roots_from returns
-pub none_from : (t next : ℕ) → next ≤ t → 0 ≡ roots_from t next
-unfolding roots_from
-none_from t next h = let e : next - t ≡ 0 = omega arith in rw e
-
-pub many_from : (t next : ℕ) → 60 < next - t → 0 ≡ roots_from t next
-unfolding roots_from
-many_from t next h = rw (ap₂ ◌&&◌ (le-leb 1 (next - t) (omega arith)) (lt-leb (next - t) 60 h))
-
-pub some-from : (t next : ℕ) → t < next → next - t ≤ 60 → next - t ≡ roots_from t next
-unfolding roots_from
-some-from t next lo hi = rw (of_range 60 (next - t) (omega arith) hi)
+    go : (x : Bool) → one_to 60 (next - t) ≡ x → returns roots ≡ outcome (cond x none (some 9)) (next - t) → RootsYes t next roots
+    go false f g = absurd cc
+    go true f g = let r = range_of 60 (next - t) f in let k : roots ≡ next - t = cc in record { is = k; some = omega arith; few = omega arith }
 
 -- ---- 8 to 12
 
@@ -70,11 +68,13 @@ module _ (img : List ℕ) (at t b next previous : ℕ) where
         unfolding questions_at
         past-8 = asked_yes 8 _ _ (ap₂ ◌&&◌ (eq-eqb (number_at img at) t (sym ex ∙ right-t)) (eq-eqb (number_at img (at + 2)) b (sym ey ∙ right-b)))
 
-        pub no_roots : {roots : ℕ} → roots ≡ roots_from t next → roots ≡ 0 → some 9 ≡ first_no (questions_at img at t b next previous)
+        pub no_roots : (n : ℕ) → refused n ≡ roots_from t next → some n ≡ first_no (questions_at img at t b next previous)
         unfolding questions_after questions_from_9 node_questions
-        no_roots e z = sym (past-8 ∙ asked_no 9 _ _ (roots_no t next (sym e ∙ z)))
+        no_roots n e =
+            let no = roots_no t next n e in
+            ap some no.0 ∙ sym (past-8 ∙ asked_no 9 _ _ no.1)
 
-        pub by_shape : {roots : ℕ} → roots ≡ next - t → (s : Shape) → Asked (questions_after img at roots previous) (pairs_at img at) roots s
+        pub by_shape : {roots : ℕ} → roots ≡ next - t → (s : Result Shape Refusal) → Asked (questions_after img at roots previous) (pairs_at img at) roots s
             → Asked (questions_at img at t b next previous) (pairs_at img at) (next - t) s
         by_shape e s f =
             let shape = subst (λ (r : ℕ). Asked (questions_after img at r previous) (pairs_at img at) r s) e f in

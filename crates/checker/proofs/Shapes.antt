@@ -11,7 +11,7 @@ use lib.ListN.{take, drop, get_or}
 use Rattle.format.specs.Seq.{every}
 use Rattle.format.specs.Trie.{bits, on_bits}
 use Rattle.format.specs.Page.{levels_in, node_count}
-use Rattle.format.specs.Question.{Question, first_no, is_positive, is_zero, node_questions, one_to}
+use Rattle.format.specs.Question.{first_no, is_positive, is_zero, node_questions, one_to}
 use Rattle.format.proofs.Lists.{all_drop}
 use Rattle.format.proofs.Counting.{marks, marks_add, marks_mono, third_at, fourth_at, nodes_counted, links_counted, every-flatten, flatten_levels}
 use Rattle.format.proofs.Questions.{asked_no, asked_yes, none_of_yes, of_range}
@@ -19,8 +19,7 @@ use Rattle.nodes.specs.Words.{Gathered, none_empty, ones_before, pairs_in, rest_
 use Rattle.nodes.proofs.Numbers.{Nodes}
 use Rattle.nodes.proofs.Used.{rest_empty_law}
 use Rattle.nodes.proofs.Pairs.{all_counted_in, counted_in, nodes_in_lem, none_empty_in, rest_empty_in}
-use Rattle.header.specs.Refusal.{refusal_of}
-use Rattle.checker.specs.declared.page.Shape.{Shape}
+use Rattle.std.specs.Prelude.{Ok}
 use Rattle.checker.specs.Paged.{Asked}
 
 -- ---- bounds
@@ -175,15 +174,6 @@ module _ {word counts : List ℕ} {r a b c : ℕ} (f : Fourth word counts r a b 
 
 -- ---- what is found
 
--- of a page that is refused, whichever questions are asked
-pub refused_page : {qs : List Question} {ps : List ℕ} {r n : ℕ} (s : Shape) → some (suc n) ≡ first_no qs → (s.refusal ≡ suc n) × (s.nodes ≡ 0) × (s.links ≡ 0) → Asked qs ps r s
-unfolding refusal_of
-refused_page s e h = record {
-  first_no_is = ap refusal_of h.0 ∙ e;
-  counted = λ z. absurd (omega arith);
-  bounded = record { few_nodes = omega arith; few_links = omega arith };
-}
-
 -- of one that 9 to 11 give a yes
 module _ {word counts : List ℕ} {r a b c all : ℕ} (e : Ended word counts r a b c all) where
   pub links_few : c ≤ all
@@ -201,10 +191,9 @@ module _ {word counts : List ℕ} {r a b c all : ℕ} (e : Ended word counts r a
       let p : List ℕ = pairs_in word in
       omega (arith, links_counted p r, f.is, ap (marks p) f.before.place, e.end_is, ap (marks p) (f.nodes_are ∙ nodes_counted p r))
 
-  pub shaped : Asked (node_questions r (pairs_in word)) (pairs_in word) r (record { refusal = 0; nodes = r + c; links = all - c })
-  unfolding refusal_of
+  pub shaped : Asked (node_questions r (pairs_in word)) (pairs_in word) r (Ok (record { nodes = r + c; links = all - c }))
   shaped = record {
     first_no_is = sym e.asked;
-    counted = λ z. record { nodes_are = e.before.nodes_are; links_are = links-is };
+    counted = record { nodes_are = e.before.nodes_are; links_are = links-is };
     bounded = record { few_nodes = e.fits; few_links = omega (arith, e.end_is, marks_few e.before.before.before.known (r + c), e.fits) };
   }

@@ -1,18 +1,19 @@
 -- Questions 8 to 12 of a page as its place in the bytes and the pages before it put them.
 -- Assumes nothing.
-use Rattle.std.specs.Prelude.{◌≡◌, ◌&&◌, cond, List, [], ◌∷◌, map, ℕ, ◌+◌, ◌-◌, ◌*◌, ◌≤◌, eqb, length, get_or}
+use Rattle.std.specs.Prelude.{◌≡◌, ◌&&◌, IfOk, Result, List, [], ◌∷◌, map, ℕ, ◌+◌, ◌-◌, ◌*◌, ◌≤◌, eqb, length, get_or}
 use Rattle.format.specs.Seq.{total}
 use Rattle.format.specs.Trie.{on_bits}
 use Rattle.format.specs.Page.{first_subtries, levels_in, node_count, number_at, pairs_at}
 use Rattle.format.specs.Image.{bands, page_count, pages_before}
-use Rattle.format.specs.Question.{Question, first_no, no_room, one_to, questions_from_9}
+use Rattle.format.specs.Question.{Outcome, Question, first_no, no_room, one_to, questions_from_9, settle}
 use Rattle.nodes.specs.Words.{ones_before}
 use Rattle.checker.specs.declared.page.Shape.{Shape}
-use Rattle.header.specs.Refusal.{refusal_of}
+use Rattle.format.specs.declared.refusal.Refusal.{Refusal}
+use Rattle.format.specs.Refusal.{refusal_of}
 
--- how many roots a page has whose first root is t, where next is the first after it; 0 where they are not 1 to 60, as 9 asks
-unfoldable pub roots_from : ℕ → ℕ → ℕ
-roots_from t next = cond (one_to 60 (next - t)) (next - t) 0
+-- 9 of a page whose first root is t, where next is the first after it: how many roots it has
+unfoldable pub roots_from : ℕ → ℕ → Outcome ℕ
+roots_from t next = settle ((9, one_to 60 (next - t)) ∷ []) (next - t)
 
 -- where the third and the fourth level of a page of r roots start, from its words
 abbrev pub third_in : List ℕ → List ℕ → ℕ → ℕ
@@ -38,16 +39,16 @@ pub record Counted (pairs : List ℕ) (r : ℕ) (s : Shape) : Type 0 where
   pub nodes_are : s.nodes ≡ node_count r (levels_in 4 r pairs)
   pub links_are : s.links ≡ on_bits (get_or (levels_in 4 r pairs) 3 [])
 
--- no count is larger, whatever the answer
+-- no count is larger
 pub record Bounded (s : Shape) : Type 0 where
   pub few_nodes : s.nodes ≤ 240
   pub few_links : s.links ≤ 480
 
--- what is found of a page of r roots that is asked questions: the first no, and the counts where there is none
-pub record Asked (questions : List Question) (pairs : List ℕ) (r : ℕ) (s : Shape) : Type 0 where
-  pub first_no_is : refusal_of s.refusal ≡ first_no questions
-  pub counted : s.refusal ≡ 0 → Counted pairs r s
-  pub bounded : Bounded s
+-- what is found of a page of r roots that is asked questions: the first no, or the counts where there is none
+pub record Asked (questions : List Question) (pairs : List ℕ) (r : ℕ) (s : Result Shape Refusal) : Type 0 where
+  pub first_no_is : refusal_of s ≡ first_no questions
+  pub counted : IfOk s (Counted pairs r)
+  pub bounded : IfOk s Bounded
 
 -- ---- where the pages stand
 

@@ -4,11 +4,11 @@ ghost use mathlib.Core.List.{flat_map};
 ghost use Rattle.format.specs.Page.{number_at};
 ghost use Rattle.format.specs.Image.{bands};
 ghost use Rattle.format.specs.Question.{first_no, band_questions};
-ghost use Rattle.header.specs.Refusal.{refusal_of};
+ghost use Rattle.format.specs.Refusal.{refusal_of};
 ghost use Rattle.checker.specs.Paged.{Sized, BandAt};
 
 use crate::page::check_page;
-use format::{OutLink, Root};
+use format::{OutLink, Refusal, Root};
 use header::{links_due, number, page_count, root_count};
 
 // The first root after page `i` of a band with so many pages and roots, whose first page is page `first` of the image.
@@ -23,8 +23,8 @@ pub fn next_root(image: &[u8], first: usize, i: usize, pages: usize, roots: usiz
     Root(roots)
 }
 
-// The number of the first question of band `band` that gets a no, 0 where none does. The band's first page is page `first` of the image.
-fn band_refusal(image: &[u8], band: usize, first: usize) -> u8
+// The first question of band `band` that gets a no. The band's first page is page `first` of the image.
+fn band_refusal(image: &[u8], band: usize, first: usize) -> Result<(), Refusal>
     requires { BandAt image.now band first }
     ensures { refusal_of result ≡ first_no (band_questions image.now band) }
 {
@@ -33,40 +33,29 @@ fn band_refusal(image: &[u8], band: usize, first: usize) -> u8
     let mut t = Root(0);
     let mut b = OutLink(0);
     let mut nodes = 241;
-    let mut i = 0;
-    while i < pages {
+    for i in 0..pages {
         let next = next_root(image, first, i, pages, roots);
-        let found = check_page(image, 64 * (first + i), t, b, next, nodes);
-        if found.refusal != 0 {
-            return found.refusal;
-        }
+        let found = check_page(image, 64 * (first + i), t, b, next, nodes)?;
         t = next;
         b = OutLink(b.0 + found.links);
         nodes = found.nodes;
-        i += 1;
     }
     // The number of the out-link after the band's last is how many the band has.
     if b.0 != links_due(image, band) {
-        return 13;
+        return Err(Refusal::Links);
     }
-    0
+    Ok(())
 }
 
-// The number of the first question of the bands that gets a no, 0 where none does.
-pub(crate) fn bands_refusal(image: &[u8]) -> u8
+// The first question of the bands that gets a no.
+pub(crate) fn bands_refusal(image: &[u8]) -> Result<(), Refusal>
     requires { Sized image.now }
     ensures { refusal_of result ≡ first_no (flat_map (band_questions image.now) bands) }
 {
-    let mut passed = 0;
     let mut first = 1;
-    while passed < 8 {
-        let band = passed + 1;
-        let refusal = band_refusal(image, band, first);
-        if refusal != 0 {
-            return refusal;
-        }
+    for band in 1..9 {
+        band_refusal(image, band, first)?;
         first += page_count(image, band);
-        passed = band;
     }
-    0
+    Ok(())
 }

@@ -7,23 +7,23 @@ ghost use Rattle.nodes.specs.Words.{Gathered, pairs_in};
 ghost use Rattle.checker.specs.Paged.{third_in, fourth_in};
 
 use crate::page::first_nodes;
+use nodes::Words;
 
 // Question 12 of a page's words, with so many roots, whose third and fourth level start at these places, after a page of `previous` nodes: whether its
 // first subtrie had no room there; 9 to 11 got a yes.
-pub fn page_needed<'a>(
-    word: &'a [u64; 9],
-    before: &'a [u16; 9],
+pub fn page_needed(
+    words: &Words,
     roots: usize,
     third: usize,
     fourth: usize,
     previous: usize,
 ) -> bool
-    requires { (Gathered word.now before.now) × (All Yes (node_questions roots (pairs_in word.now))) × (third ≡ third_in word.now before.now roots) × (fourth ≡ fourth_in word.now before.now roots) × (previous ≤ 241) }
-    ensures { result ≡ no_room previous (levels_in 4 roots (pairs_in word.now)) }
+    requires { (Gathered words.now.word words.now.before) × (All Yes (node_questions roots (pairs_in words.now.word))) × (third ≡ third_in words.now.word words.now.before roots) × (fourth ≡ fourth_in words.now.word words.now.before roots) × (previous ≤ 241) }
+    ensures { result ≡ no_room previous (levels_in 4 roots (pairs_in words.now.word)) }
 {
     // The smallest subtrie has four nodes: after so full a page none can fit.
     if 236 < previous {
         return true;
     }
-    240 < first_nodes(word, before, roots, third, fourth) + previous
+    240 < first_nodes(words, roots, third, fourth) + previous
 }

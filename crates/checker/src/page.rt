@@ -2,134 +2,98 @@
 ghost use Rattle.std.specs.Prelude.{◌≡◌, ◌+◌, ◌-◌, ◌≤◌, length};
 ghost use Rattle.format.specs.Page.{pairs_at};
 ghost use Rattle.format.specs.Question.{node_questions};
+ghost use Rattle.format.specs.Refusal.{outcome_of};
 ghost use Rattle.nodes.specs.Words.{Gathered, pairs_in};
 ghost use Rattle.checker.specs.Paged.{roots_from, third_in, fourth_in, first_nodes, questions_after, questions_at, Asked};
 
-use format::{OutLink, Root};
+use crate::needed::page_needed;
+use format::{OutLink, Refusal, Root, one_to};
 use header::number;
-use nodes::on_bits_before;
+use nodes::Words;
 
-// What the questions of a page find: the number of the first that gets a no, 0 where none does, and then the page's nodes and out-links.
-#[derive(Clone, Copy)]
+// A page that gets a yes throughout: its nodes and out-links.
+#[derive(Clone, Copy, Debug, PartialEq, Eq)]
 pub struct Shape {
-    pub refusal: u8,
     pub nodes: usize,
     pub links: usize,
 }
 
-fn refused(refusal: u8) -> Shape
-    ensures { (result.refusal ≡ refusal) × (result.nodes ≡ 0) × (result.links ≡ 0) }
+// Question 9 of a page whose first root is `t`, where `next` is the first after it: how many roots it has.
+pub fn roots_from(t: Root, next: Root) -> Result<usize, Refusal>
+    ensures { outcome_of result ≡ roots_from t.0 next.0 }
 {
-    Shape {
-        refusal,
-        nodes: 0,
-        links: 0,
+    let roots = next.0.saturating_sub(t.0);
+    if !one_to(60, roots) {
+        return Err(Refusal::Roots);
     }
-}
-
-// Question 9 of a page whose first root is `t`, where `next` is the first after it: how many roots it has, 0 where they are not 1 to 60.
-pub fn roots_from(t: Root, next: Root) -> usize
-    ensures { result ≡ roots_from t.0 next.0 }
-{
-    if next.0 <= t.0 {
-        return 0;
-    }
-    let roots = next.0 - t.0;
-    if 60 < roots {
-        return 0;
-    }
-    roots
+    Ok(roots)
 }
 
 // The place where the third level of a page of so many roots starts, from its words.
-pub fn third_level<'a>(word: &'a [u64; 9], before: &'a [u16; 9], roots: usize) -> usize
-    requires { (Gathered word.now before.now) × (1 ≤ roots) × (roots ≤ 60) }
-    ensures { (result ≡ third_in word.now before.now roots) × (result ≤ 180) }
+pub fn third_level(words: &Words, roots: usize) -> usize
+    requires { (Gathered words.now.word words.now.before) × (1 ≤ roots) × (roots ≤ 60) }
+    ensures { (result ≡ third_in words.now.word words.now.before roots) × (result ≤ 180) }
 {
-    roots + on_bits_before(word, before, roots)
+    roots + words.on_bits_before(roots)
 }
 
 // And the fourth, from the third.
-pub fn fourth_level<'a>(
-    word: &'a [u64; 9],
-    before: &'a [u16; 9],
-    roots: usize,
-    third: usize,
-) -> usize
-    requires { (roots ≤ 60) × (third ≡ third_in word.now before.now roots) × (third ≤ 180) }
-    ensures { result ≡ fourth_in word.now before.now roots }
+pub fn fourth_level(words: &Words, roots: usize, third: usize) -> usize
+    requires { (roots ≤ 60) × (third ≡ third_in words.now.word words.now.before roots) × (third ≤ 180) }
+    ensures { result ≡ fourth_in words.now.word words.now.before roots }
 {
-    roots + on_bits_before(word, before, third)
+    roots + words.on_bits_before(third)
 }
 
 // Questions 10 and 11 of a page's words, with so many roots, whose fourth level starts at place `fourth`; 9 got a yes.
-pub fn check_nodes<'a>(
-    word: &'a [u64; 9],
-    before: &'a [u16; 9],
-    roots: usize,
-    fourth: usize,
-) -> Shape
-    requires { (Gathered word.now before.now) × (1 ≤ roots) × (roots ≤ 60) × (fourth ≡ fourth_in word.now before.now roots) }
-    ensures { Asked (node_questions roots (pairs_in word.now)) (pairs_in word.now) roots result }
+pub fn check_nodes(words: &Words, roots: usize, fourth: usize) -> Result<Shape, Refusal>
+    requires { (Gathered words.now.word words.now.before) × (1 ≤ roots) × (roots ≤ 60) × (fourth ≡ fourth_in words.now.word words.now.before roots) }
+    ensures { Asked (node_questions roots (pairs_in words.now.word)) (pairs_in words.now.word) roots result }
 {
     if 240 < fourth {
-        return refused(10);
+        return Err(Refusal::Nodes);
     }
-    let fourth_on = on_bits_before(word, before, fourth);
+    let fourth_on = words.on_bits_before(fourth);
     let end = roots + fourth_on;
     if 240 < end {
-        return refused(10);
+        return Err(Refusal::Nodes);
     }
-    if !nodes::none_empty(word, end) {
-        return refused(10);
+    if !words.none_empty(end) {
+        return Err(Refusal::Nodes);
     }
-    if !nodes::rest_empty(word, before, end) {
-        return refused(11);
+    if !words.rest_empty(end) {
+        return Err(Refusal::Padding);
     }
-    Shape {
-        refusal: 0,
+    Ok(Shape {
         nodes: end,
-        links: nodes::on_bits(before) - fourth_on,
-    }
+        links: words.on_bits() - fourth_on,
+    })
 }
 
 // The nodes of the first subtrie of a page, from its words, its roots and the places where its third and fourth levels start.
-pub(crate) fn first_nodes<'a>(
-    word: &'a [u64; 9],
-    before: &'a [u16; 9],
-    roots: usize,
-    third: usize,
-    fourth: usize,
-) -> usize
-    requires { (Gathered word.now before.now) × (1 ≤ roots) × (roots ≤ 60) × (third ≡ third_in word.now before.now roots) × (fourth ≡ fourth_in word.now before.now roots) }
-    ensures { (result ≡ first_nodes roots (pairs_in word.now)) × (result ≤ 15) }
+pub(crate) fn first_nodes(words: &Words, roots: usize, third: usize, fourth: usize) -> usize
+    requires { (Gathered words.now.word words.now.before) × (1 ≤ roots) × (roots ≤ 60) × (third ≡ third_in words.now.word words.now.before roots) × (fourth ≡ fourth_in words.now.word words.now.before roots) }
+    ensures { (result ≡ first_nodes roots (pairs_in words.now.word)) × (result ≤ 15) }
 {
-    let first2 = on_bits_before(word, before, 1);
-    let first3 = on_bits_before(word, before, roots + first2) - (third - roots);
-    let first4 = on_bits_before(word, before, third + first3) - (fourth - roots);
+    let first2 = words.on_bits_before(1);
+    let first3 = words.on_bits_before(roots + first2) - (third - roots);
+    let first4 = words.on_bits_before(third + first3) - (fourth - roots);
     1 + first2 + first3 + first4
 }
 
 // Questions 10 to 12 of the page at `at` with so many roots, after a page of `previous` nodes; 9 got a yes.
-fn check_shape(image: &[u8], at: usize, roots: usize, previous: usize) -> Shape
+fn check_shape(image: &[u8], at: usize, roots: usize, previous: usize) -> Result<Shape, Refusal>
     requires { (at + 64 ≤ length image.now) × (1 ≤ roots) × (roots ≤ 60) × (previous ≤ 241) }
     ensures { Asked (questions_after image.now at roots previous) (pairs_at image.now at) roots result }
 {
     let words = nodes::gather(image, at);
-    let third = third_level(&words.word, &words.before, roots);
-    let fourth = fourth_level(&words.word, &words.before, roots, third);
-    let found = check_nodes(&words.word, &words.before, roots, fourth);
-    if found.refusal != 0 {
-        return found;
+    let third = third_level(&words, roots);
+    let fourth = fourth_level(&words, roots, third);
+    let shape = check_nodes(&words, roots, fourth)?;
+    if !page_needed(&words, roots, third, fourth, previous) {
+        return Err(Refusal::Packing);
     }
-    // The smallest subtrie has four nodes: after so full a page none can fit.
-    if 236 < previous {
-        return found;
-    }
-    if first_nodes(&words.word, &words.before, roots, third, fourth) + previous <= 240 {
-        return refused(12);
-    }
-    found
+    Ok(shape)
 }
 
 // Questions 8 to 12 of the page at `at`. Before it stand the band's roots below `t` and its out-links below `b`, `next` is the first root after it, and
@@ -141,19 +105,15 @@ pub(crate) fn check_page(
     b: OutLink,
     next: Root,
     previous: usize,
-) -> Shape
+) -> Result<Shape, Refusal>
     requires { (at + 64 ≤ length image.now) × (previous ≤ 241) }
     ensures { Asked (questions_at image.now at t.0 b.0 next.0 previous) (pairs_at image.now at) (next.0 - t.0) result }
 {
     if number(image, at) != t.0 {
-        return refused(8);
+        return Err(Refusal::Counters);
     }
     if number(image, at + 2) != b.0 {
-        return refused(8);
+        return Err(Refusal::Counters);
     }
-    let roots = roots_from(t, next);
-    if roots == 0 {
-        return refused(9);
-    }
-    check_shape(image, at, roots, previous)
+    check_shape(image, at, roots_from(t, next)?, previous)
 }

@@ -1,15 +1,15 @@
 -- `checker::lift` meets its contract. Assumes nothing.
-use Rattle.checker.specs.Outcomes.{outcome_of}
-use Rattle.checker.proofs.After.{accepted_lift, accepted_long, answer_accepted, answer_refused, refused_lift}
+use Rattle.std.proofs.lemmas.Result.{err_from_is_err_and}
+use Rattle.checker.proofs.After.{accepted_lift, accepted_long, refused_lift}
 use Rattle.checker.proofs.lift.Goals as goal
 
+pub returns-in_err-check : goal.returns-in_err-check
+returns-in_err-check c =
+    let p = err_from_is_err_and c.from_residual.result c.from_residual.ensures.1 in
+    rw (p.1, p.2) (refused_lift _ _ c.in_err-check.ensures)
+
 pub lift-requires : goal.lift-requires
-lift-requires c = accepted_long _ _ (answer_accepted _ _ c.check.ensures c.in-Accepted.is)
+lift-requires c = accepted_long _ _ c.in_ok-check.ensures
 
-pub returns-in-Accepted : goal.returns-in-Accepted
-unfolding outcome_of
-returns-in-Accepted c = accepted_lift _ _ (answer_accepted _ _ c.check.ensures c.in-Accepted.is) _ c.lift.ensures.0
-
-pub returns-in-Refused : goal.returns-in-Refused
-unfolding outcome_of
-returns-in-Refused c = refused_lift _ _ (answer_refused _ _ c.check.ensures c.in-Refused.is)
+pub returns : goal.returns
+returns c = accepted_lift _ _ c.in_ok-check.ensures _ c.lift.ensures.0

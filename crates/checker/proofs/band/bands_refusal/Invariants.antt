@@ -3,8 +3,5 @@ use Prim.Native.Nat.{◌-◌}
 use Rattle.checker.proofs.Images.{Passed}
 use Rattle.checker.proofs.band.bands_refusal.Given as goal
 
-abbrev pub invariant-loop-passed : goal.invariant-loop-passed
-invariant-loop-passed l = Passed l.image l.passed l.first
-
-abbrev pub decreases-loop-passed : goal.decreases-loop-passed
-decreases-loop-passed l = 8 - l.passed
+abbrev pub invariant-loop-band : goal.invariant-loop-band
+invariant-loop-band l = Passed l.image (l.band - 1) l.first

@@ -1,25 +1,27 @@
 -- `checker::page::check_shape` meets its contract: 9 to 11 from the page's words, then 12. Assumes nothing.
-use mathlib.Core.Path.{◌≡◌, ap, subst, ◌∙◌}
+use mathlib.Core.Path.{◌≡◌, sym, ap, subst, ◌∙◌}
+use mathlib.Core.Bool.{Bool}
 use mathlib.Core.List.{List}
 use Prim.Native.Nat.{ℕ, ◌+◌, ◌≤◌}
-use native.Mathlib.Omega.{arith}
 use lib.ListN.{length}
+use Rattle.std.specs.Prelude.{Result}
+use Rattle.std.proofs.lemmas.Result.{err_from_is_err_and}
 use Rattle.format.specs.Seq.{All}
-use Rattle.format.specs.Page.{Byte, pairs_at}
-use Rattle.format.specs.Question.{node_questions}
+use Rattle.format.specs.Page.{Byte, levels_in, pairs_at}
+use Rattle.format.specs.Question.{no_room, node_questions}
+use Rattle.format.specs.declared.refusal.Refusal.{Refusal}
+use Rattle.format.proofs.Questions.{yes_of_none}
 use Rattle.nodes.specs.declared.Words.{Words}
 use Rattle.nodes.specs.Words.{Gathered, pairs_in, words_of}
 use Rattle.nodes.proofs.Numbers.{bytes_of}
 use Rattle.nodes.proofs.Pairs.{gathered_from, pairs_are}
-use Rattle.header.proofs.Refusals.{none_refused}
 use Rattle.checker.specs.declared.page.Shape.{Shape}
-use Rattle.checker.specs.Paged.{Asked, first_nodes, questions_after}
-use Rattle.checker.proofs.Shapes.{refused_page}
-use Rattle.checker.proofs.First.{refused_before, needed, not_needed, four_nodes}
+use Rattle.checker.specs.Paged.{Asked, questions_after}
+use Rattle.checker.proofs.Twelve.{refused_before, needed, not_needed}
 use Rattle.checker.proofs.page.check_shape.Goals as goal
 
--- the page's bytes, place and roots, and its words where they have been gathered
-module _ (img : List ℕ) (fine : All Byte img) (at roots : ℕ) (inside : at + 64 ≤ length img) (some : 1 ≤ roots) (few : roots ≤ 60) (words : Words) (words_are : words ≡ words_of img at) where
+-- the page's bytes and place, and its words where they have been gathered
+module _ (img : List ℕ) (fine : All Byte img) (at : ℕ) (inside : at + 64 ≤ length img) (words : Words) (words_are : words ≡ words_of img at) where
   gathered : Gathered words.word words.before
   gathered = gathered_from img fine at inside words_are
 
@@ -27,63 +29,47 @@ module _ (img : List ℕ) (fine : All Byte img) (at roots : ℕ) (inside : at + 
   pairs = pairs_are img fine at inside words words_are
 
   -- what 9 to 11 find
-  module _ (s : Shape) (asked : Asked (node_questions roots (pairs_in words.word)) (pairs_in words.word) roots s) where
-    found : Asked (node_questions roots (pairs_at img at)) (pairs_at img at) roots s
-    found = subst (λ (ps : List ℕ). Asked (node_questions roots ps) ps roots s) pairs asked
+  found : (roots : ℕ) (s : Result Shape Refusal) → Asked (node_questions roots (pairs_in words.word)) (pairs_in words.word) roots s → Asked (node_questions roots (pairs_at img at)) (pairs_at img at) roots s
+  found roots s asked = subst (λ (ps : List ℕ). Asked (node_questions roots ps) ps roots s) pairs asked
 
-    four : s.refusal ≡ 0 → 4 ≤ first_nodes roots (pairs_at img at)
-    four z =
-        subst (λ (ps : List ℕ). 4 ≤ first_nodes roots ps) pairs
-        (four_nodes (record { gathered = gathered; some_roots = some; few_roots = few }) (none_refused s.refusal (node_questions roots (pairs_in words.word)) asked.first_no_is z))
-
-  -- and the first subtrie's nodes
-  first : (nodes : ℕ) → nodes ≡ first_nodes roots (pairs_in words.word) → nodes ≡ first_nodes roots (pairs_at img at)
-  first nodes e = e ∙ ap (first_nodes roots) pairs
+  -- and 12
+  room : (roots previous : ℕ) (t : Bool) → t ≡ no_room previous (levels_in 4 roots (pairs_in words.word)) → t ≡ no_room previous (levels_in 4 roots (pairs_at img at))
+  room roots previous t e = e ∙ ap (λ (ps : List ℕ). no_room previous (levels_in 4 roots ps)) pairs
 
 pub third_level-third-requires : goal.third_level-third-requires
 third_level-third-requires c =
     let p = c.requires in
-    (gathered _ (bytes_of _ (λ i. (c.type_inv.image i).fits)) _ _ p.0 p.1 p.2 _ c.gather-words.ensures, p.1, p.2)
+    (gathered _ (bytes_of _ (λ i. (c.type_inv.image i).fits)) _ p.0 _ c.gather-words.ensures, p.1, p.2)
 
-pub fourth_level-fourth-requires : goal.fourth_level-fourth-requires
-fourth_level-fourth-requires c = (c.requires.2, c.third_level-third.ensures.0, c.third_level-third.ensures.1)
-
-pub check_nodes-found-requires : goal.check_nodes-found-requires
-check_nodes-found-requires c =
+pub check_nodes-requires : goal.check_nodes-requires
+check_nodes-requires c =
     let p = c.requires in
-    (gathered _ (bytes_of _ (λ i. (c.type_inv.image i).fits)) _ _ p.0 p.1 p.2 _ c.gather-words.ensures, p.1, p.2, c.fourth_level-fourth.ensures)
+    (gathered _ (bytes_of _ (λ i. (c.type_inv.image i).fits)) _ p.0 _ c.gather-words.ensures, p.1, p.2, c.fourth_level-fourth.ensures)
 
-pub returns-then-found-ne0 : goal.returns-then-found-ne0
+pub returns-in_err-shape : goal.returns-in_err-shape
 unfolding questions_after
-returns-then-found-ne0 c =
-    let p = c.requires in
-    refused_before _ _ _ (found _ (bytes_of _ (λ i. (c.type_inv.image i).fits)) _ _ p.0 p.1 p.2 _ c.gather-words.ensures _ c.check_nodes-found.ensures) c.if-found-ne0.true
+returns-in_err-shape c =
+    let p = err_from_is_err_and c.from_residual.result c.from_residual.ensures.1 in
+    let f = found _ (bytes_of _ (λ i. (c.type_inv.image i).fits)) _ c.requires.0 _ c.gather-words.ensures _ _ c.in_err-shape.ensures in
+    rw (p.1, p.2) record { first_no_is = refused_before _ _ _ _ f.first_no_is; counted = tt; bounded = tt }
 
-pub returns-then-previous-gt236 : goal.returns-then-previous-gt236
+pub page_needed-requires : goal.page_needed-requires
+page_needed-requires c =
+    let p = c.requires in
+    (gathered _ (bytes_of _ (λ i. (c.type_inv.image i).fits)) _ p.0 _ c.gather-words.ensures, yes_of_none _ (sym c.in_ok-shape.ensures.first_no_is), c.third_level-third.ensures.0, c.fourth_level-fourth.ensures, p.3)
+
+pub returns-then-not-page_needed : goal.returns-then-not-page_needed
 unfolding questions_after
-returns-then-previous-gt236 c =
-    let p = c.requires in
-    let z = c.if-found-ne0.false in
-    let nodes = four _ (bytes_of _ (λ i. (c.type_inv.image i).fits)) _ _ p.0 p.1 p.2 _ c.gather-words.ensures _ c.check_nodes-found.ensures z in
-    needed _ _ _ (found _ (bytes_of _ (λ i. (c.type_inv.image i).fits)) _ _ p.0 p.1 p.2 _ c.gather-words.ensures _ c.check_nodes-found.ensures) z (omega (arith, nodes, c.if-previous-gt236.true))
-
-pub first_nodes-requires : goal.first_nodes-requires
-first_nodes-requires c =
-    let p = c.requires in
-    (gathered _ (bytes_of _ (λ i. (c.type_inv.image i).fits)) _ _ p.0 p.1 p.2 _ c.gather-words.ensures, p.1, p.2, c.third_level-third.ensures.0, c.fourth_level-fourth.ensures)
-
-pub returns-then-first_nodes-previous-le240 : goal.returns-then-first_nodes-previous-le240
-unfolding questions_after
-returns-then-first_nodes-previous-le240 c =
-    let p = c.requires in
-    let shape = found _ (bytes_of _ (λ i. (c.type_inv.image i).fits)) _ _ p.0 p.1 p.2 _ c.gather-words.ensures _ c.check_nodes-found.ensures in
-    let nodes = first _ (bytes_of _ (λ i. (c.type_inv.image i).fits)) _ _ p.0 p.1 p.2 _ c.gather-words.ensures _ c.first_nodes.ensures.0 in
-    refused_page _ (not_needed _ _ _ shape c.if-found-ne0.false (omega (arith, nodes, c.if-first_nodes-previous-le240.true))) c.refused.ensures
+returns-then-not-page_needed c =
+    let bytes = bytes_of _ (λ i. (c.type_inv.image i).fits) in
+    let f = found _ bytes _ c.requires.0 _ c.gather-words.ensures _ _ c.in_ok-shape.ensures in
+    let r = room _ bytes _ c.requires.0 _ c.gather-words.ensures _ _ _ c.page_needed.ensures in
+    record { first_no_is = not_needed _ _ _ f.first_no_is _ r c.if-not-page_needed.true; counted = tt; bounded = tt }
 
 pub returns : goal.returns
 unfolding questions_after
 returns c =
-    let p = c.requires in
-    let shape = found _ (bytes_of _ (λ i. (c.type_inv.image i).fits)) _ _ p.0 p.1 p.2 _ c.gather-words.ensures _ c.check_nodes-found.ensures in
-    let nodes = first _ (bytes_of _ (λ i. (c.type_inv.image i).fits)) _ _ p.0 p.1 p.2 _ c.gather-words.ensures _ c.first_nodes.ensures.0 in
-    needed _ _ _ shape c.if-found-ne0.false (omega (arith, nodes, c.if-first_nodes-previous-le240.false))
+    let bytes = bytes_of _ (λ i. (c.type_inv.image i).fits) in
+    let f = found _ bytes _ c.requires.0 _ c.gather-words.ensures _ _ c.in_ok-shape.ensures in
+    let r = room _ bytes _ c.requires.0 _ c.gather-words.ensures _ _ _ c.page_needed.ensures in
+    record { first_no_is = needed _ _ _ f.first_no_is _ r c.if-not-page_needed.false; counted = f.counted; bounded = f.bounded }

@@ -1,18 +1,17 @@
 -- `checker::page::roots_from` meets its contract. Assumes nothing.
+use mathlib.Core.Path.{◌≡◌, ap, sym, ◌∙◌}
+use Prim.Native.Nat.{◌-◌}
 use native.Mathlib.Omega.{arith}
-use Rattle.checker.proofs.Pages.{none_from, many_from, some-from}
+use Rattle.format.specs.Question.{one_to, returns as returned}
+use Rattle.checker.proofs.Pages.{roots_refused, roots_returned}
 use Rattle.checker.proofs.page.roots_from.Goals as goal
 
-pub returns-then-next-t : goal.returns-then-next-t
-returns-then-next-t c = let a = c.args in none_from a.t.0 a.next.0 c.if-next-t.true
-
-pub overflow_sub-roots : goal.overflow_sub-roots
-overflow_sub-roots c = omega (arith, c.if-next-t.false)
-
-pub returns-then-roots-gt60 : goal.returns-then-roots-gt60
-returns-then-roots-gt60 c = let a = c.args in many_from a.t.0 a.next.0 c.if-roots-gt60.true
+pub returns-then-not-one_to : goal.returns-then-not-one_to
+returns-then-not-one_to c =
+    let e : c.saturating_sub-roots.result ≡ c.args.next.0 - c.args.t.0 = omega arith in
+    roots_refused _ _ (ap (one_to 60) (sym e) ∙ sym c.one_to.ensures ∙ c.if-not-one_to.true)
 
 pub returns : goal.returns
 returns c =
-    let a = c.args in
-    some-from a.t.0 a.next.0 (omega (arith, c.if-next-t.false)) (omega (arith, c.if-roots-gt60.false))
+    let e : c.saturating_sub-roots.result ≡ c.args.next.0 - c.args.t.0 = omega arith in
+    ap returned e ∙ roots_returned _ _ (ap (one_to 60) (sym e) ∙ sym c.one_to.ensures ∙ c.if-not-one_to.false)
