@@ -3,9 +3,11 @@
 use Rattle.std.specs.Prelude.{◌≡◌, List, ℕ, zero, suc, ◌+◌, ◌*◌, ◌/◌, ◌≤◌, ◌<◌}
 use Rattle.format.specs.Page.{number_at}
 use Rattle.format.specs.Exact.{Accepted}
-use Rattle.format.specs.Image.{key_count, out_link_count, page_b, page_count, page_nodes, page_number, page_roots, page_t, root_count}
+use Rattle.format.specs.Image.{key_count, next_t, out_link_count, page_b, page_count, page_nodes, page_number, page_roots, page_t, root_count}
 use Rattle.nodes.specs.Words.{words_of, ones_before, node_in}
 use Rattle.pages.specs.declared.Band.{Band}
+use Rattle.pages.specs.declared.Field.{Field}
+use Rattle.pages.specs.declared.Field.TheVariants.{T, B}
 use Rattle.pages.specs.declared.Page.{Page}
 use Rattle.pages.specs.declared.PageHead.{PageHead}
 
@@ -25,6 +27,16 @@ pub record BandRead (img : List ℕ) (band : Band) : Type 0 where
 -- the number that page i of band b has f bytes after its start: T for 0, B for 2
 abbrev pub head_at : List ℕ → ℕ → ℕ → ℕ → ℕ
 head_at img b f i = number_at img (64 * page_number img b i + f)
+
+-- where T and B stand
+abbrev pub offset_of : Field → ℕ
+offset_of T = 0
+offset_of B = 2
+
+-- the first root, or the first out-link, after page i of band b
+abbrev pub after_page : List ℕ → ℕ → Field → ℕ → ℕ
+after_page img b T i = next_t img b i
+after_page img b B i = page_b img b i + out_link_count img b i
 
 -- page i is the last of band b whose number is at or below x
 pub record LastPage (img : List ℕ) (b f x i : ℕ) : Type 0 where

@@ -15,7 +15,7 @@ pub returns : goal.returns
 returns c =
     let page = c.args.page.now in
     let node = c.args.node in
-    let byte = c.least-byte.result in
-    let e = c.least-byte.ensures in
+    let byte = c.min-byte.result in
+    let e = c.min-byte.ensures in
     subst (λ (x : ℕ). NodesIn (x * 2 ^ (2 * (node - 4 * byte)) % 2 ^ 64) page node 28) (sym c.word.ensures)
-    (many_are page c.requires.0 (bytes_of page (λ i. (c.shared_slice_known-1.given i).fits)) node byte (omega arith) (omega arith) (λ k. inside node byte k e))
+    (many_are page c.requires.0 (bytes_of page (λ i. (c.type_inv.page i).fits)) node byte (omega arith) (omega arith) (λ k. inside node byte k e))

@@ -1,14 +1,14 @@
--- `pages::head_of_link` meets its contract. Assumes nothing.
+-- `pages::Band::head_of_link` meets its contract. Assumes nothing.
 use mathlib.Core.Path.{ap₂, ◌∙◌}
 use native.Mathlib.Omega.{arith}
 use Rattle.format.specs.Image.{out_link_count, page_b}
 use Rattle.pages.proofs.Pages.{first_b}
 use Rattle.pages.proofs.Opened.{link_in}
-use Rattle.pages.proofs.head_of_link.Goals as goal
+use Rattle.pages.proofs.Band.head_of_link.Goals as goal
 
 pub last_page-index-requires : goal.last_page-index-requires
 last_page-index-requires c =
-    let p = c.requires in (p.0, p.1, omega arith, omega (arith, first_b p.0 _ p.1.from p.1.to))
+    let p = c.requires in (p.0, p.1, omega (arith, first_b p.0 _ p.1.from p.1.to))
 
 pub returns : goal.returns
 returns c =

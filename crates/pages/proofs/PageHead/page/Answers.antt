@@ -1,11 +1,11 @@
--- `pages::page_of` meets its contract. Assumes nothing.
+-- `pages::PageHead::page` meets its contract. Assumes nothing.
 use mathlib.Core.Path.{refl}
 use native.Mathlib.Omega.{arith}
 use Rattle.pages.proofs.Heads.{head_fits, nodes_asked, nodes_are}
-use Rattle.pages.proofs.page_of.Goals as goal
+use Rattle.pages.proofs.PageHead.page.Goals as goal
 
-pub overflow_mul-head : goal.overflow_mul-head
-overflow_mul-head c = let p = c.requires in omega (arith, head_fits p.0 p.1)
+pub overflow_mul-self : goal.overflow_mul-self
+overflow_mul-self c = let p = c.requires in omega (arith, head_fits p.0 p.1)
 
 pub gather-words-requires : goal.gather-words-requires
 gather-words-requires c = let p = c.requires in head_fits p.0 p.1

@@ -1,7 +1,7 @@
--- `pages::band_at` meets its contract. Assumes nothing.
+-- `pages::Band::read` meets its contract. Assumes nothing.
 use mathlib.Core.Path.{refl}
 use Rattle.pages.proofs.Pages.{header_long}
-use Rattle.pages.proofs.band_at.Goals as goal
+use Rattle.pages.proofs.Band.read.Goals as goal
 
 pub page_count-requires : goal.page_count-requires
 page_count-requires c = let p = c.requires in (header_long p.0, p.2)
