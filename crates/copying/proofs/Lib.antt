@@ -2,6 +2,3 @@
 
 -- stores in a list
 pub mod Stores
--- numbers copied to the front of others, and moved down among themselves
-pub mod Copied
-pub mod Moves

@@ -8,7 +8,7 @@ ghost use Rattle.format.specs.Writer.{ascending};
 ghost use Rattle.packing.specs.Run.{differ, more_nodes, joined, Prefixes, PageIs, BandCounted};
 
 // The end of a page's run of prefixes, and the page's nodes.
-#[derive(Clone, Copy)]
+#[derive(Debug, Clone, Copy, PartialEq, Eq)]
 pub struct PageRun {
     pub end: usize,
     pub nodes: usize,
@@ -22,20 +22,22 @@ struct Packing {
 }
 
 // The pages and the roots of a band.
-#[derive(Clone, Copy)]
+#[derive(Debug, Clone, Copy, PartialEq, Eq)]
 pub struct BandCounts {
     pub pages: usize,
     pub roots: usize,
 }
 
 // 1 for two numbers that differ, else 0.
+#[tactic(auto, unfolding(crate::specs::Run::differ))]
 fn differs(x: u32, y: u32) -> usize
     ensures { (result ≡ differ x y) × (result ≤ 1) }
 {
-    if x == y { 0 } else { 1 }
+    usize::from(x != y)
 }
 
 // How many nodes a prefix adds to the subtrie of the prefix before it: one for each level where it leaves that one's node.
+#[tactic(auto, unfolding(crate::specs::Run::more_nodes))]
 fn more_nodes(x: u32, y: u32) -> usize
     ensures { (result ≡ more_nodes x y) × (result ≤ 3) }
 {
@@ -47,30 +49,29 @@ pub fn is_ascending(keys: &[u32]) -> bool
     ensures { result ≡ ascending keys.now }
 {
     let mut all = true;
-    let mut i = 1;
-    while i < keys.len() {
-        if keys[i] <= keys[i - 1] {
-            all = false;
-        }
-        i += 1;
+    for pair in keys.windows(2) {
+        all &= pair[0] < pair[1];
     }
     all
 }
 
-// A subtrie joins the open page if the page then has at most 240 nodes, whatever a larger one would have needed; else it starts a page.
-fn join(packing: Packing, size: usize) -> Packing
-    requires { (packing.pages ≤ 4096) × (packing.used ≤ 240) × (size ≤ 15) }
-    ensures { result ≡ joined packing size }
-{
-    if packing.used + size <= 240 {
-        Packing {
-            pages: packing.pages,
-            used: packing.used + size,
-        }
-    } else {
-        Packing {
-            pages: packing.pages + 1,
-            used: size,
+impl Packing {
+    // A subtrie joins the open page if the page then has at most 240 nodes, whatever a larger one would have needed; else it starts a page.
+    #[tactic(auto, unfolding(crate::specs::Run::joined))]
+    fn join(self, size: usize) -> Packing
+        requires { (self.pages ≤ 4096) × (self.used ≤ 240) × (size ≤ 15) }
+        ensures { result ≡ joined self size }
+    {
+        if self.used + size <= 240 {
+            Packing {
+                pages: self.pages,
+                used: self.used + size,
+            }
+        } else {
+            Packing {
+                pages: self.pages + 1,
+                used: size,
+            }
         }
     }
 }
@@ -80,7 +81,7 @@ pub fn count_band(keys: &mut [u32]) -> BandCounts
     requires { Prefixes keys.old }
     ensures { BandCounted keys.old result keys.new }
 {
-    if keys.len() == 0 {
+    if keys.is_empty() {
         return BandCounts { pages: 0, roots: 0 };
     }
     let mut x = keys[0];
@@ -89,22 +90,20 @@ pub fn count_band(keys: &mut [u32]) -> BandCounts
     let mut roots = 1;
     let mut packing = Packing { pages: 1, used: 0 };
     let mut size = 4;
-    let mut i = 1;
-    while i < keys.len() {
+    for i in 1..keys.len() {
         let y = keys[i];
         if root == y / 16 {
             size += more_nodes(x, y);
         } else {
             root = y / 16;
-            packing = join(packing, size);
+            packing = packing.join(size);
             size = 4;
             keys[roots] = root;
             roots += 1;
         }
         x = y;
-        i += 1;
     }
-    packing = join(packing, size);
+    packing = packing.join(size);
     BandCounts {
         pages: packing.pages,
         roots,
@@ -119,8 +118,7 @@ pub fn page_run(keys: &[u32]) -> PageRun
     let mut used = 0;
     let mut size = 4;
     let mut start = 0;
-    let mut i = 1;
-    while i < keys.len() {
+    for i in 1..keys.len() {
         let x = keys[i - 1];
         let y = keys[i];
         if x / 16 == y / 16 {
@@ -136,7 +134,6 @@ pub fn page_run(keys: &[u32]) -> PageRun
             size = 4;
             start = i;
         }
-        i += 1;
     }
     if 240 < used + size {
         PageRun {
@@ -145,7 +142,7 @@ pub fn page_run(keys: &[u32]) -> PageRun
         }
     } else {
         PageRun {
-            end: i,
+            end: keys.len(),
             nodes: used + size,
         }
     }

@@ -1,6 +1,6 @@
 -- Laws for the bytes of one page. Each file's head says its subject; a file uses only those above it.
 
--- bytes stored in a buffer; nodes in the bytes of a page
+-- a number's bytes; nodes in the bytes of a page
 pub mod Bytes
 pub mod Nodes
 pub mod Filling

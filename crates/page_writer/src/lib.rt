@@ -10,7 +10,7 @@ ghost use Rattle.page_writer.specs.Page.{bit_in, page_left, byte_left, LevelRoom
 use format::{OutLink, Root};
 
 // Paper 01's T and B of a page: the numbers of its first root and its first out-link.
-#[derive(Clone, Copy)]
+#[derive(Debug, Clone, Copy, PartialEq, Eq)]
 pub struct Head {
     pub t: Root,
     pub b: OutLink,
@@ -28,8 +28,7 @@ pub fn put_number(out: &mut [u8], at: usize, x: u16)
     requires { at + 2 ≤ length out.old }
     ensures { out.new ≡ take at out.old ++ (two_bytes x ++ drop (at + 2) out.old) }
 {
-    out[at] = (x / 256) as u8;
-    out[at + 1] = (x % 256) as u8;
+    out[at..at + 2].copy_from_slice(&x.to_be_bytes());
 }
 
 // `n` bytes of zeros.
@@ -37,14 +36,11 @@ pub fn clear(out: &mut [u8], at: usize, n: usize)
     requires { at + n ≤ length out.old }
     ensures { out.new ≡ take at out.old ++ (replicate n 0 ++ drop (at + n) out.old) }
 {
-    let mut i = 0;
-    while i < n {
-        out[at + i] = 0;
-        i += 1;
-    }
+    out[at..at + n].fill(0);
 }
 
 // The bit that a prefix turns on in node `n`, as it stands in the node's byte.
+#[tactic(auto, using(crate::proofs::Nodes::bit_place))]
 fn bit_in(n: usize, x: u32) -> u8
     ensures { result ≡ bit_in n x }
 {
@@ -52,6 +48,7 @@ fn bit_in(n: usize, x: u32) -> u8
 }
 
 // Leaves node `n` for the one before it: stores the byte if that one is in another; returns what the byte of that one holds.
+#[tactic(auto, unfolding(crate::specs::Page::page_left, crate::specs::Page::byte_left))]
 fn leave(page: &mut [u8], n: usize, byte: u8) -> u8
     requires { 4 + n / 4 < length page.old }
     ensures { (result ≡ byte_left n byte) × (page.new ≡ page_left page.old n byte) }
@@ -69,16 +66,14 @@ fn fill_level(page: &mut [u8], keys: &mut [u32], from: usize, end: usize) -> Lev
     requires { LevelRoom page.old keys.old from end }
     ensures { LevelDone page.old keys.old from end page.new keys.new result }
 {
-    let mut i = keys.len() - 1;
-    let last = keys[i];
+    let mut first = keys.len() - 1;
+    let last = keys[first];
     let mut parent = last / 2;
-    keys[i] = parent;
-    let mut first = i;
+    keys[first] = parent;
     let mut node = end - 1;
     let mut bit = bit_in(node, last);
     let mut byte = page[4 + node / 4] + bit;
-    while from < i {
-        i -= 1;
+    for i in (from..first).rev() {
         let x = keys[i];
         if x / 2 == parent {
             byte += 2 * bit;

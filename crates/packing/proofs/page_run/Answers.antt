@@ -1,5 +1,7 @@
 -- `packing::page_run` meets its contract. The invariant is `Scan`. Assumes nothing.
+use mathlib.Core.Path.{◌≡◌}
 use native.Mathlib.Omega.{arith}
+use lib.ListN.{length}
 use Rattle.format.proofs.Members.{of_ascending}
 use Rattle.packing.proofs.Scan.{page_first, scan_start, scan_same, scan_next, scan_ends, scan_last}
 use Rattle.packing.proofs.page_run.Goals as goal
@@ -24,4 +26,6 @@ pub returns-then-used-size-gt240-2 : goal.returns-then-used-size-gt240-2
 returns-then-used-size-gt240-2 c = page_first _ _ _ (scan_ends _ _ _ _ _ _ c.loop-i.invariant (λ h. absurd (omega arith)) c.if-used-size-gt240-2.true)
 
 pub returns-else-used-size-gt240-2 : goal.returns-else-used-size-gt240-2
-returns-else-used-size-gt240-2 c = page_first _ _ _ (scan_last _ _ _ _ _ _ c.loop-i.invariant c.loop-i-test.false c.if-used-size-gt240-2.false)
+returns-else-used-size-gt240-2 c =
+    let all : length c.args.keys.now ≡ c.loop-i.i = omega (arith, c.loop-i.invariant.within) in
+    rw all (page_first _ _ _ (scan_last _ _ _ _ _ _ c.loop-i.invariant c.loop-i-test.false c.if-used-size-gt240-2.false))

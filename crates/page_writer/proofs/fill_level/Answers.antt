@@ -1,6 +1,5 @@
 -- `page_writer::fill_level` meets its contract. The invariant is `Marked`, of the prefixes as they were before the last was replaced.
 -- Assumes nothing.
-use mathlib.Core.Path.{◌∙◌}
 use native.Mathlib.Omega.{arith}
 use lib.ListN.{length-set}
 use Rattle.copying.proofs.Stores.{put_back}
@@ -17,8 +16,8 @@ overflow_add-byte-2 c = record { fits = rw c.bit_in-bit.ensures (start_small _ _
 pub loop-i-init : goal.loop-i-init
 loop-i-init c = rw (put_back, c.bit_in-bit.ensures) (marked_start _ _ _ _ c.requires)
 
-pub offset_bounds-keys-i-in-loop-i : goal.offset_bounds-keys-i-in-loop-i
-offset_bounds-keys-i-in-loop-i c = omega (arith, simp length-set at c.loop-i.invariant.scanned.some)
+pub offset_bounds-keys-i : goal.offset_bounds-keys-i
+offset_bounds-keys-i c = omega (arith, simp length-set at c.loop-i.invariant.scanned.some)
 
 pub overflow_mul-byte : goal.overflow_mul-byte
 overflow_mul-byte c = record { fits = omega (arith, twice_small _ _ _ _ _ _ _ _ _ _ _ _ c.loop-i.invariant c.loop-i-test.true c.if-x-parent.true) }
@@ -35,15 +34,12 @@ overflow_sub-node-else-x-parent c = node_some _ _ _ _ _ _ _ _ _ _ _ c.loop-i.inv
 pub overflow_add-byte-else-x-parent : goal.overflow_add-byte-else-x-parent
 overflow_add-byte-else-x-parent c = record { fits = rw (c.leave-byte.ensures.0, c.bit_in-bit-else-x-parent.ensures) (other_small _ _ _ _ _ _ _ _ _ _ _ c.loop-i.invariant.scanned c.loop-i-test.true (other_parent _ _ _ _ _ _ _ _ _ _ _ _ c.loop-i.invariant c.loop-i-test.true c.if-x-parent.false)) }
 
-pub offset_bounds-keys-first : goal.offset_bounds-keys-first
-offset_bounds-keys-first c = omega (arith, simp length-set at c.loop-i.invariant.scanned.first_place)
+pub offset_bounds-keys-first-else-x-parent : goal.offset_bounds-keys-first-else-x-parent
+offset_bounds-keys-first-else-x-parent c = omega (arith, simp length-set at c.loop-i.invariant.scanned.first_place)
 
 pub loop-i-preserved : goal.loop-i-preserved
 loop-i-preserved c = rw (c.leave-byte.ensures.0, c.leave-byte.ensures.1, c.bit_in-bit-else-x-parent.ensures)
     (marked_other _ _ _ _ _ _ _ _ _ _ _ _ c.loop-i.invariant c.loop-i-test.true c.if-x-parent.false)
-
-pub shape_of-keys : goal.shape_of-keys
-shape_of-keys c = c.loop-i.invariant.scanned.same_keys ∙ simp length-set
 
 pub returns : goal.returns
 returns c = scanned_end _ _ _ _ _ _ _ _ _ _ _ _ (put_back _ _ _) c.loop-i.invariant.scanned c.loop-i-test.false

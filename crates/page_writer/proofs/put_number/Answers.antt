@@ -1,11 +1,13 @@
 -- `page_writer::put_number` meets its contract. Assumes nothing.
+use mathlib.Core.Path.{◌≡◌, refl, ◌∙◌}
+use Prim.Native.Nat.{◌+◌, ◌-◌}
 use native.Mathlib.Omega.{arith}
-use lib.ListN.{length-set}
-use Rattle.page_writer.proofs.Bytes.{two_stored}
+use lib.Seq.{drop-drop}
+use Rattle.page_writer.proofs.Bytes.{two_high_first}
 use Rattle.page_writer.proofs.put_number.Goals as goal
 
-pub bounds-out-at-2 : goal.bounds-out-at-2
-bounds-out-at-2 c = simp length-set (omega arith)
-
 pub returns : goal.returns
-returns c = two_stored _ _ _ c.requires
+returns c =
+    let bytes = c.copy_from_slice.ensures.after ∙ c.to_be_bytes.ensures ∙ two_high_first c.args.x c.ranges.x.fits in
+    let n : c.args.at + 2 - c.args.at ≡ 2 = omega arith in
+    rw (bytes, n, drop-drop) refl
