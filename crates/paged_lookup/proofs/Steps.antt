@@ -2,7 +2,7 @@
 -- Assumes nothing.
 use mathlib.Core.Path.{◌≡◌, refl, sym, ap, ap₂, ◌∙◌, subst}
 use mathlib.Core.Bool.{Bool, true, false}
-use mathlib.Core.Option.{none}
+use mathlib.Core.Option.{none, some}
 use mathlib.Core.List.{List}
 use Prim.Native.Nat.{ℕ, ◌+◌, ◌-◌, ◌*◌, ◌≤◌, ◌<◌}
 use native.Mathlib.Omega.{arith}
@@ -10,7 +10,7 @@ use lib.ListN.{get_or}
 use Rattle.format.specs.declared.OutLink.{OutLink}
 use Rattle.format.specs.Page.{levels_in, node_count, number_at, pairs_at}
 use Rattle.format.specs.Image.{next_t, page_b, page_levels, page_nodes, page_number, page_pairs, page_roots, page_t, page_with, root_count}
-use Rattle.format.specs.Question.{and_then, first_no, node_questions, one_to, out_links_due, outcome, refused, returns, settle}
+use Rattle.format.specs.Question.{Outcome, and_then, first_no, node_questions, one_to, outcome, refused, returns, settle}
 use Rattle.format.proofs.Questions.{asked_no, none_of_yes}
 use Rattle.format.proofs.Jobs.{settle_no, settle-yes}
 use Rattle.format.proofs.NodeQuestions.{NodesOk, of_nodes}
@@ -19,74 +19,43 @@ use Rattle.format.proofs.Walk.{page_with_lem}
 use Rattle.nodes.specs.declared.Words.{Words}
 use Rattle.nodes.specs.Words.{Gathered, pairs_in, words_of}
 use Rattle.nodes.proofs.Pairs.{gathered_from, pairs_are}
-use Rattle.header.specs.Refusal.{refusal_of}
-use Rattle.header.proofs.Refusals.{none_refused, refused_outcome}
-use Rattle.checker.specs.Paged.{Asked}
-use Rattle.checker.specs.declared.page.Shape.{Shape}
 use Rattle.pages.specs.declared.PageHead.{PageHead}
 use Rattle.pages.specs.Page.{HeadRead, Ready}
 use Rattle.pages.proofs.Pages.{b_small, bytes, checked}
 use Rattle.pages.proofs.Heads.{head_fits, nodes_are}
-use Rattle.paged_lookup.specs.declared.page.Way.{Way}
-use Rattle.paged_lookup.specs.declared.page.Way.TheVariants.{Out, Off, Refused}
-use Rattle.paged_lookup.specs.declared.band.Step.{Step}
+use Rattle.paged_lookup.specs.declared.page.Way.TheVariants.{Out, Off}
 use Rattle.paged_lookup.specs.Paged as paged
 use Rattle.paged_lookup.specs.Paged.{out, off, follow, has_page, leaving, number, renumbered, through, way_from}
-use Rattle.paged_lookup.specs.Way.{JudgedIn, StepRight, way_at, way_outcome}
+use Rattle.paged_lookup.specs.Way.{JudgedIn, way_at, way_of}
 use Rattle.paged_lookup.proofs.LastPages.{last_page, root_before}
-use Rattle.paged_lookup.proofs.Ways.{Below}
-use Rattle.paged_lookup.proofs.Bands.{has, is_below_lem, leave_no, leave_yes, no_27, not-below, past_27}
+use Rattle.paged_lookup.proofs.Bands.{has, no_27, past_27}
 use Rattle.paged_lookup.proofs.Finding.{PageFound}
 
 -- ---- in a page
 
-module _ (img : List ℕ) (at roots : ℕ) (word : List ℕ) (same : pairs_in word ≡ pairs_at img at) {shape : Shape} (q : Asked (node_questions roots (pairs_in word)) (pairs_in word) roots shape) where
-  asked : refusal_of shape.refusal ≡ first_no (node_questions roots (pairs_at img at))
-  asked = q.first_no_is ∙ ap (λ (ps : List ℕ). first_no (node_questions roots ps)) same
-
-  -- 10 or 11 gets a no
-  pub page_refused : (shape.refusal ≡ 0 → ⊥) → (w : paged.Way) → way_outcome (Refused shape.refusal) ≡ settle (node_questions roots (pairs_at img at)) w
-  unfolding way_outcome settle
-  page_refused nz w = refused_outcome shape.refusal w nz ∙ ap (λ o. outcome o w) asked
-
-  -- they get a yes
-  pub judged_yes : shape.refusal ≡ 0 → first_no (node_questions roots (pairs_in word)) ≡ none
-  judged_yes z = none_refused shape.refusal (node_questions roots (pairs_in word)) q.first_no_is z
+-- 10 or 11 gets a no
+pub page_refused : (img : List ℕ) (at roots : ℕ) (word : List ℕ) → pairs_in word ≡ pairs_at img at → (x : ℕ) → some x ≡ first_no (node_questions roots (pairs_in word)) → (w : paged.Way)
+    → refused x ≡ settle (node_questions roots (pairs_at img at)) w
+unfolding settle outcome
+page_refused img at roots word same x e w = ap (λ o. outcome o w) (e ∙ ap (λ (ps : List ℕ). first_no (node_questions roots ps)) same)
 
 -- a page whose 9 to 11 get a yes
-pub page_way : (img : List ℕ) (at roots : ℕ) (word : List ℕ) → pairs_in word ≡ pairs_at img at → first_no (node_questions roots (pairs_in word)) ≡ none → (way : Way) {b : ℕ} (key level : ℕ) (from : paged.Way) → b ≡ number_at img (at + 2)
-    → way_outcome way ≡ returns (renumbered (b +◌) (follow key level (levels_in 4 roots (pairs_in word)) from))
-    → way_outcome way ≡ settle (node_questions roots (pairs_at img at)) (renumbered (number_at img (at + 2) +◌) (follow key level (levels_in 4 roots (pairs_at img at)) from))
+pub page_way : (img : List ℕ) (at roots : ℕ) (word : List ℕ) → pairs_in word ≡ pairs_at img at → first_no (node_questions roots (pairs_in word)) ≡ none → (way : paged.Way) {b : ℕ} (key level : ℕ) (from : paged.Way) → b ≡ number_at img (at + 2)
+    → way ≡ renumbered (b +◌) (follow key level (levels_in 4 roots (pairs_in word)) from)
+    → returns way ≡ settle (node_questions roots (pairs_at img at)) (renumbered (number_at img (at + 2) +◌) (follow key level (levels_in 4 roots (pairs_at img at)) from))
 page_way img at roots word same asked way {b} key level from eb w =
-    w ∙ ap₂ (λ (x : ℕ) (ps : List ℕ). returns (renumbered (x +◌) (follow key level (levels_in 4 roots ps) from))) eb same
+    ap returns w ∙ ap₂ (λ (x : ℕ) (ps : List ℕ). returns (renumbered (x +◌) (follow key level (levels_in 4 roots ps) from))) eb same
     ∙ sym (settle-yes (node_questions roots (pairs_at img at)) _ (subst (λ (ps : List ℕ). first_no (node_questions roots ps) ≡ none) same asked))
 
 -- the end of the four bits
 module _ {way : paged.Way} (b : ℕ) (on : Bool) (n : ℕ) (e : way ≡ way_at on n) where
-  pub way_out : on ≡ true → way_outcome (Out (record { 0 = b + n })) ≡ returns (renumbered (b +◌) way)
-  unfolding way_outcome renumbered
-  way_out t = ap (λ w. returns (renumbered (b +◌) w)) (sym (e ∙ ap (λ t. way_at t n) t))
+  pub way_out : on ≡ true → way_of (Out (record { 0 = b + n })) ≡ renumbered (b +◌) way
+  unfolding renumbered
+  way_out t = ap (renumbered (b +◌)) (sym (e ∙ ap (λ t. way_at t n) t))
 
-  pub way_off : on ≡ false → way_outcome (Off (record { 0 = b + n })) ≡ returns (renumbered (b +◌) way)
-  unfolding way_outcome renumbered
-  way_off t = ap (λ w. returns (renumbered (b +◌) w)) (sym (e ∙ ap (λ t. way_at t n) t))
-
--- ---- leaving
-
-module _ (img : List ℕ) (b : ℕ) {way : Way} where
-  pub leave_refused : {n : ℕ} → way ≡ Refused n → way_outcome (Refused n) ≡ and_then (way_outcome way) (leaving img b)
-  unfolding way_outcome and_then
-  leave_refused e = sym (ap (λ w. and_then (way_outcome w) (leaving img b)) e)
-
-  -- with a way out of the page
-  module _ {to : Way} {next : paged.Way} (e : way ≡ to) (o : way_outcome to ≡ returns next) where
-    pub leave_over : (Below (out_links_due img b) next → ⊥) → way_outcome (Refused 28) ≡ and_then (way_outcome way) (leaving img b)
-    unfolding way_outcome and_then
-    leave_over h = sym (ap (λ o. and_then o (leaving img b)) (ap way_outcome e ∙ o) ∙ leave_no img b next (not-below (out_links_due img b) next h))
-
-    pub leave_in : Below (out_links_due img b) next → way_outcome to ≡ and_then (way_outcome way) (leaving img b)
-    unfolding and_then
-    leave_in h = o ∙ sym (ap (λ o. and_then o (leaving img b)) (ap way_outcome e ∙ o) ∙ leave_yes img b next (is_below_lem (out_links_due img b) next h))
+  pub way_off : on ≡ false → way_of (Off (record { 0 = b + n })) ≡ renumbered (b +◌) way
+  unfolding renumbered
+  way_off t = ap (renumbered (b +◌)) (sym (e ∙ ap (λ t. way_at t n) t))
 
 -- ---- in a page of an accepted image
 
@@ -174,48 +143,44 @@ module _ (img : List ℕ) (key b root : ℕ) where
   page_at true h = past_27 img key b (out root) h
   page_at false h = past_27 img key b (off root) h
 
-module _ (img : List ℕ) (key b : ℕ) (on : Bool) (root : ℕ) (s : Step) where
-  -- a question ends it: no page is promised
-  no-page : {n : ℕ} → s.way ≡ Refused n → {next : paged.Way} → way_outcome s.way ≡ returns next → s.page ≡ page_number img b (page_with img b root)
-  unfolding way_outcome
-  no-page {n} e {next} f = absurd (let w : refused n ≡ returns next = sym (ap way_outcome e) ∙ f in let z : ◌≡◌ {A = ℕ} 0 1 = cc in omega arith)
-
-  pub step-none : has_page img b root ≡ false → s.way ≡ Refused 27 → StepRight img key b on root s
-  unfolding way_outcome
-  step-none h e = record { outcome = ap way_outcome e ∙ sym (no-page-at img key b root on h); page_is = no-page e }
+module _ (img : List ℕ) (key b : ℕ) (on : Bool) (root : ℕ) where
+  pub step-none : has_page img b root ≡ false → refused 27 ≡ through img key b (way_at on root)
+  step-none h = sym (no-page-at img key b root on h)
 
   module _ {i page t next : ℕ} (f : PageFound img b root i page t next) where
+    -- the page's number in the image
+    pub page_told : page ≡ page_number img b (page_with img b root)
+    page_told = f.number_is ∙ ap (page_number img b) (sym f.is)
+
     -- 9 gets a no
-    pub step_nine : one_to 60 (next - t) ≡ false → s.way ≡ Refused 9 → StepRight img key b on root s
-    unfolding way_outcome node_questions and_then taken
-    step_nine h e =
-        record {
-          outcome = ap way_outcome e ∙ sym (page_at img key b root on f.has
-              ∙ ap (λ o. and_then o (leaving img b)) (settle_no (node_questions (page_roots img b (page_with img b root)) (page_pairs img b (page_with img b root))) _ 9 (asked_no 9 _ _ (ap (one_to 60) (sym (roots_are f)) ∙ h))));
-          page_is = no-page e;
-        }
+    pub step_nine : one_to 60 (next - t) ≡ false → refused 9 ≡ through img key b (way_at on root)
+    unfolding node_questions and_then taken
+    step_nine h =
+        sym (page_at img key b root on f.has
+        ∙ ap (λ o. and_then o (leaving img b)) (settle_no (node_questions (page_roots img b (page_with img b root)) (page_pairs img b (page_with img b root))) _ 9 (asked_no 9 _ _ (ap (one_to 60) (sym (roots_are f)) ∙ h))))
 
     -- its way, judged, and on leaving
-    pub step_left : {roots : ℕ} → roots ≡ next - t → (way : Way)
-        → way_outcome way ≡ settle (node_questions roots (pairs_at img (64 * page))) (renumbered (number_at img (64 * page + 2) +◌) (follow key (4 * (b - 1)) (levels_in 4 roots (pairs_at img (64 * page))) (way_at on (root - t))))
-        → way_outcome s.way ≡ and_then (way_outcome way) (leaving img b) → s.page ≡ page → StepRight img key b on root s
+    pub step_left : {roots : ℕ} → roots ≡ next - t → (o o' : Outcome paged.Way)
+        → o ≡ settle (node_questions roots (pairs_at img (64 * page))) (renumbered (number_at img (64 * page + 2) +◌) (follow key (4 * (b - 1)) (levels_in 4 roots (pairs_at img (64 * page))) (way_at on (root - t))))
+        → o' ≡ and_then o (leaving img b) → o' ≡ through img key b (way_at on root)
     unfolding taken page_b page_pairs page_levels
-    step_left {roots} er way w l e =
+    step_left {roots} er o o' w l =
         let i = page_with img b root in
         let r : roots ≡ page_roots img b i = er ∙ roots_are f in
         let n : 64 * page ≡ 64 * page_number img b i = ap (64 *◌) (f.number_is ∙ ap (page_number img b) (sym f.is)) in
         let x : t ≡ page_t img b i = f.t_is ∙ ap (page_t img b) (sym f.is) in
         let same = ap₂ (λ (m q : ℕ). settle (node_questions q (pairs_at img m)) (renumbered (number_at img (m + 2) +◌) (follow key (4 * (b - 1)) (levels_in 4 q (pairs_at img m)) (way_at on (root - t))))) n r
         ∙ ap (λ (y : ℕ). settle (node_questions (page_roots img b i) (page_pairs img b i)) (renumbered (page_b img b i +◌) (follow key (4 * (b - 1)) (page_levels img b i) (way_at on (root - y))))) x in
-        record {
-          outcome = l ∙ ap (λ o. and_then o (leaving img b)) (w ∙ same) ∙ sym (page_at img key b root on f.has);
-          page_is = λ _. e ∙ f.number_is ∙ ap (page_number img b) (sym f.is);
-        }
+        l ∙ ap (λ o. and_then o (leaving img b)) (w ∙ same) ∙ sym (page_at img key b root on f.has)
 
 -- the same in an accepted image, by the head of the page
-pub step_head : {img : List ℕ} (r : Ready img) {head : PageHead} (d : HeadRead img head) {b root : ℕ} → head.band ≡ b → head.t.0 ≤ root → root < head.t.0 + head.roots → root < root_count img b → (key : ℕ) (on : Bool) (s : Step) (way : Way)
-    → way_outcome way ≡ settle (node_questions head.roots (pairs_at img (64 * head.number))) (renumbered (number_at img (64 * head.number + 2) +◌) (follow key (4 * (head.band - 1)) (levels_in 4 head.roots (pairs_at img (64 * head.number))) (way_at on (root - head.t.0))))
-    → way_outcome s.way ≡ and_then (way_outcome way) (leaving img b) → s.page ≡ head.number → StepRight img key b on root s
-step_head {img} r {head} d {b} {root} e lo hi within key on s way w l p =
-    step_left img key b on root s (head-found r d e lo hi within) (head-roots r d e) way
-    (w ∙ ap (λ (x : ℕ). settle (node_questions head.roots (pairs_at img (64 * head.number))) (renumbered (number_at img (64 * head.number + 2) +◌) (follow key (4 * (x - 1)) (levels_in 4 head.roots (pairs_at img (64 * head.number))) (way_at on (root - head.t.0))))) e) l p
+module _ {img : List ℕ} (r : Ready img) {head : PageHead} (d : HeadRead img head) {b root : ℕ} (e : head.band ≡ b) (lo : head.t.0 ≤ root) (hi : root < head.t.0 + head.roots) (within : root < root_count img b) (key : ℕ) (on : Bool) where
+  pub head_told : head.number ≡ page_number img b (page_with img b root)
+  head_told = page_told img key b on root (head-found r d e lo hi within)
+
+  pub step_head : (o o' : Outcome paged.Way)
+      → o ≡ settle (node_questions head.roots (pairs_at img (64 * head.number))) (renumbered (number_at img (64 * head.number + 2) +◌) (follow key (4 * (head.band - 1)) (levels_in 4 head.roots (pairs_at img (64 * head.number))) (way_at on (root - head.t.0))))
+      → o' ≡ and_then o (leaving img b) → o' ≡ through img key b (way_at on root)
+  step_head o o' w l =
+      step_left img key b on root (head-found r d e lo hi within) (head-roots r d e) o o'
+      (w ∙ ap (λ (x : ℕ). settle (node_questions head.roots (pairs_at img (64 * head.number))) (renumbered (number_at img (64 * head.number + 2) +◌) (follow key (4 * (x - 1)) (levels_in 4 head.roots (pairs_at img (64 * head.number))) (way_at on (root - head.t.0))))) e) l

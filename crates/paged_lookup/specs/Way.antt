@@ -1,13 +1,15 @@
 -- What the inner functions find: the page of a root, a key's way in it, and through a band.
 -- Assumes nothing.
-use Rattle.std.specs.Prelude.{◌≡◌, Bool, true, false, List, ℕ, suc, ◌+◌, ◌-◌, ◌*◌, ◌≤◌, ◌<◌}
+use Rattle.std.specs.Prelude.{◌≡◌, IfOk, Result, Ok, Err, Bool, true, false, List, ℕ, suc, ◌+◌, ◌*◌, ◌≤◌, ◌<◌}
 use Rattle.std.proofs.Math.Option.{none}
 use Rattle.format.specs.Page.{levels_in, node_count, number_at, offset}
 use Rattle.format.specs.Image.{page_number, page_with}
 use Rattle.format.specs.Question.{Outcome, first_no, header_questions, node_questions, refused, returns}
+use Rattle.format.specs.Refusal.{number_of}
+use Rattle.format.specs.declared.refusal.Refusal.{Refusal}
 use Rattle.nodes.specs.Words.{Gathered, pairs_in}
 use Rattle.paged_lookup.specs.declared.page.Way.{Way}
-use Rattle.paged_lookup.specs.declared.page.Way.TheVariants.{Out, Off, Refused}
+use Rattle.paged_lookup.specs.declared.page.Way.TheVariants.{Out, Off}
 use Rattle.paged_lookup.specs.declared.page.Judged.{Judged}
 use Rattle.paged_lookup.specs.declared.band.Step.{Step}
 use Rattle.paged_lookup.specs.Paged as paged
@@ -22,10 +24,17 @@ way_at true n = paged.Way.out n
 way_at false n = paged.Way.off n
 
 -- a key's way, or a refusal
-unfoldable pub way_outcome : Way → Outcome paged.Way
-way_outcome (Out link) = returns (paged.Way.out link.0)
-way_outcome (Off figure) = returns (paged.Way.off figure.0)
-way_outcome (Refused n) = refused n
+abbrev pub way_of : Way → paged.Way
+way_of (Out link) = paged.Way.out link.0
+way_of (Off figure) = paged.Way.off figure.0
+
+abbrev pub way_outcome : Result Way Refusal → Outcome paged.Way
+way_outcome (Ok way) = returns (way_of way)
+way_outcome (Err refusal) = refused (number_of refusal)
+
+abbrev pub step_outcome : Result Step Refusal → Outcome paged.Way
+step_outcome (Ok step) = returns (way_of step.way)
+step_outcome (Err refusal) = refused (number_of refusal)
 
 -- the words of a page of so many roots, which 9 to 11 give a yes
 pub record PageIn (word before : List ℕ) (roots : ℕ) : Type 0 where
@@ -50,13 +59,17 @@ pub record NodeOn (word before : List ℕ) (roots end place : ℕ) : Type 0 wher
   pub to : place < end
   pub end_is : end ≡ offset (suc level) (four_levels word roots)
 
--- so many pages there are up to and with the last whose T is at or below a root's number
-pub record Upto (img : List ℕ) (first pages root upto : ℕ) : Type 0 where
-  pub within : upto ≤ pages
-  pub at : 1 ≤ upto → number_at img (64 * (first + (upto - 1))) ≤ root
-  pub after : (j : ℕ) → upto ≤ j → j < pages → root < number_at img (64 * (first + j))
+-- every page of a band from one on has a T above a root's number
+pub record AllAbove (img : List ℕ) (first pages root from : ℕ) : Type 0 where
+  pub after : (j : ℕ) → from ≤ j → j < pages → root < number_at img (64 * (first + j))
+
+-- the last page whose T is at or below it
+pub record LastUpto (img : List ℕ) (first pages root index : ℕ) : Type 0 where
+  pub in_band : index < pages
+  pub at : number_at img (64 * (first + index)) ≤ root
+  pub after : AllAbove img first pages root (index + 1)
 
 -- through band b from a root, or a figure: where it is left, the page is that of the root's number
-pub record StepRight (img : List ℕ) (key b : ℕ) (on : Bool) (root : ℕ) (s : Step) : Type 0 where
-  pub outcome : way_outcome s.way ≡ paged.through img key b (way_at on root)
-  pub page_is : {next : paged.Way} → way_outcome s.way ≡ returns next → s.page ≡ page_number img b (page_with img b root)
+pub record StepRight (img : List ℕ) (key b : ℕ) (on : Bool) (root : ℕ) (s : Result Step Refusal) : Type 0 where
+  pub outcome : step_outcome s ≡ paged.through img key b (way_at on root)
+  pub page_is : IfOk s (λ step. step.page ≡ page_number img b (page_with img b root))

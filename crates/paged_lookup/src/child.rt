@@ -12,7 +12,7 @@ ghost use Rattle.std.specs.Prelude.{◌≡◌, ◌≤◌};
 ghost use Rattle.format.specs.Child.{child_by_steps, step_back};
 ghost use Rattle.paged_lookup.specs.Way.{four_levels, NodeOn};
 
-use nodes::{node_at, on_bits_through};
+use nodes::Words;
 
 // One back for a left child that has a sibling, which the node's second bit leads to. Without a branch on the side, since a key's bits cannot be foreseen.
 fn step_back(node: u64, side: usize) -> usize
@@ -25,23 +25,22 @@ fn step_back(node: u64, side: usize) -> usize
 
 // The place of the child that the bit of this side of the node at a place leads to, where that bit is on. The node is on one of the page's first three levels, and the
 // level's last node stands before place `end`.
-pub(crate) fn child_place<'a>(
-    word: &'a [u64; 9],
-    before: &'a [u16; 9],
+pub(crate) fn child_place(
+    words: &Words,
     roots: usize,
     end: usize,
     place: usize,
     side: usize,
 ) -> usize
-    requires { (NodeOn word.now before.now roots end place) × (side ≤ 1) }
-    ensures { result ≡ child_by_steps (four_levels word.now roots) place side }
+    requires { (NodeOn words.now.word words.now.before roots end place) × (side ≤ 1) }
+    ensures { result ≡ child_by_steps (four_levels words.now.word roots) place side }
 {
     // The on bits above the level lead to the nodes before `end`, but for the roots.
     let above = end - roots;
     // Step 1: the out-links so far, the level's on bits in the page through the node itself.
-    let out_links = on_bits_through(word, before, place) - above;
+    let out_links = words.on_bits_through(place) - above;
     // Step 2: one back for a left child that has a sibling.
-    let position = out_links - step_back(node_at(word, place), side);
+    let position = out_links - step_back(words.node_at(place), side);
     // Step 3: on past the nodes after it, to the level's last node.
     let after = end - 1 - place;
     let last = place + after;

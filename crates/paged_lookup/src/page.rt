@@ -7,26 +7,36 @@ ghost use Rattle.format.specs.Question.{is_zero, node_questions, returns, settle
 ghost use Rattle.nodes.specs.Words.{node_in, pairs_in};
 ghost use Rattle.pages.specs.Page.{Ready, HeadRead, child_in};
 ghost use Rattle.paged_lookup.specs.Paged;
-ghost use Rattle.paged_lookup.specs.Way.{way_at, way_outcome, JudgedIn, NodeOn};
+ghost use Rattle.paged_lookup.specs.Way.{way_at, way_of, way_outcome, JudgedIn, NodeOn};
 
 use crate::child::child_place;
 use checker::page::{check_nodes, fourth_level, third_level};
-use format::{OutLink, Root};
+use format::{OutLink, Refusal, Root};
 use header::number;
-use nodes::{gather, node_at, on_bits_before};
-use pages::{PageHead, node_count};
+use nodes::{Words, gather};
+use pages::PageHead;
 
-// Where a key's bits lead: to an out-link of the band; past an off bit to a figure, by the out-links of the band that lie left; or the number of the question that
-// got a no.
-#[derive(Clone, Copy)]
+// Where a key's bits lead: to an out-link of the band; past an off bit to a figure, by the out-links of the band that lie left.
+#[derive(Clone, Copy, Debug, PartialEq, Eq)]
 pub enum Way {
     Out(OutLink),
     Off(OutLink),
-    Refused(u8),
+}
+
+impl Way {
+    // Whether the number is below the out-links due; a figure may be equal to them.
+    pub(crate) fn is_below(self, due: usize) -> bool
+        ensures { result ≡ Paged.is_below due (way_of self) }
+    {
+        match self {
+            Way::Out(link) => link.0 < due,
+            Way::Off(figure) => figure.0 <= due,
+        }
+    }
 }
 
 // A page that 9 to 11 gave a yes: how many roots and nodes it has, and B, its first out-link.
-#[derive(Clone, Copy)]
+#[derive(Clone, Copy, Debug, PartialEq, Eq)]
 pub struct Judged {
     pub roots: usize,
     pub nodes: usize,
@@ -34,7 +44,7 @@ pub struct Judged {
 }
 
 // A place in a page, and whether all the key's bits so far were on: the place is then that of the key's node, else the nodes of the level before it lie left.
-#[derive(Clone, Copy)]
+#[derive(Clone, Copy, Debug, PartialEq, Eq)]
 pub struct Position {
     pub place: usize,
     pub on: bool,
@@ -59,32 +69,26 @@ fn bit_of(node: u64, side: usize) -> u64
 }
 
 // Whether the key's bit is on, and all its bits before were.
-fn is_on(word: &[u64; 9], from: Position, side: usize) -> bool
+fn is_on(words: &Words, from: Position, side: usize) -> bool
     requires { from.on ≡ true → from.place < 240 }
-    ensures { result ≡ (from.on && not (is_zero (bit side (node_in word.now from.place)))) }
+    ensures { result ≡ (from.on && not (is_zero (bit side (node_in words.now.word from.place)))) }
 {
     if from.on {
-        return bit_of(node_at(word, from.place), side) != 0;
+        return bit_of(words.node_at(from.place), side) != 0;
     }
     false
 }
 
 // Where the nodes under the on bits left of a key's way end on the next level, or past the fourth level among the out-links, counted on from the page's nodes: the roots, and
 // the page's on bits before the key's bit, or past an off bit before the place. Without a branch on the side, since a key's bits cannot be foreseen.
-fn left_end<'a>(
-    word: &'a [u64; 9],
-    before: &'a [u16; 9],
-    roots: usize,
-    from: Position,
-    side: usize,
-) -> usize
+fn left_end(words: &Words, roots: usize, from: Position, side: usize) -> usize
     requires { (from.place ≤ 240) × (from.on ≡ true → from.place < 240) × (roots ≤ 60) × (side ≤ 1) }
-    ensures { (result ≡ child_in word.now before.now roots from.place (cond from.on side 0)) × (result < 65700) }
+    ensures { (result ≡ child_in words.now.word words.now.before roots from.place (cond from.on side 0)) × (result < 65700) }
 {
     let place = from.place;
-    let left = roots + on_bits_before(word, before, place);
+    let left = roots + words.on_bits_before(place);
     if from.on {
-        let first_bit = (node_at(word, place) / 2) as usize;
+        let first_bit = (words.node_at(place) / 2) as usize;
         return left + side * first_bit;
     }
     left
@@ -92,56 +96,45 @@ fn left_end<'a>(
 
 // One level down, where the key's bit is `side` and the level's last node stands before place `end`. On the page's first three levels, where `inner` is true, an on bit leads
 // to its child; on the fourth it leads out of the page, to the out-link that paper 01 counts. Past an off bit the place is where the nodes or out-links that lie left end.
-fn step<'a>(
-    word: &'a [u64; 9],
-    before: &'a [u16; 9],
+fn step(
+    words: &Words,
     roots: usize,
     end: usize,
     from: Position,
     side: usize,
     inner: bool,
 ) -> Position
-    requires { (from.place ≤ 240) × (from.on ≡ true → from.place < 240) × (inner ≡ true → from.on ≡ true → NodeOn word.now before.now roots end from.place) × (roots ≤ 60) × (side ≤ 1) }
-    ensures { (result.place ≡ child_in word.now before.now roots from.place (cond from.on side 0)) × (result.place < 65700) × (result.on ≡ (from.on && not (is_zero (bit side (node_in word.now from.place))))) }
+    requires { (from.place ≤ 240) × (from.on ≡ true → from.place < 240) × (inner ≡ true → from.on ≡ true → NodeOn words.now.word words.now.before roots end from.place) × (roots ≤ 60) × (side ≤ 1) }
+    ensures { (result.place ≡ child_in words.now.word words.now.before roots from.place (cond from.on side 0)) × (result.place < 65700) × (result.on ≡ (from.on && not (is_zero (bit side (node_in words.now.word from.place))))) }
 {
-    let on = is_on(word, from, side);
+    let on = is_on(words, from, side);
     if on {
         if inner {
             return Position {
-                place: child_place(word, before, roots, end, from.place, side),
+                place: child_place(words, roots, end, from.place, side),
                 on,
             };
         }
     }
     Position {
-        place: left_end(word, before, roots, from, side),
+        place: left_end(words, roots, from, side),
         on,
     }
 }
 
 // Follows a key's four bits from level `level` on, in a page's words, from the page's root `root`, counted from 0 in the page. Where `on` is false a bit was off
 // above, and the roots before this one lie left.
-fn follow<'a>(
-    word: &'a [u64; 9],
-    before: &'a [u16; 9],
-    page: Judged,
-    root: usize,
-    on: bool,
-    key: u32,
-    level: usize,
-) -> Way
-    requires { (JudgedIn word.now before.now page) × (root < page.roots) × (level + 4 ≤ 32) × (page.b.0 < 65536) }
-    ensures { way_outcome result ≡ returns (Paged.renumbered (page.b.0 +◌) (Paged.follow key level (levels_in 4 page.roots (pairs_in word.now)) (way_at on root))) }
+fn follow(words: &Words, page: Judged, root: usize, on: bool, key: u32, level: usize) -> Way
+    requires { (JudgedIn words.now.word words.now.before page) × (root < page.roots) × (level + 4 ≤ 32) × (page.b.0 < 65536) }
+    ensures { way_of result ≡ Paged.renumbered (page.b.0 +◌) (Paged.follow key level (levels_in 4 page.roots (pairs_in words.now.word)) (way_at on root)) }
 {
     let mut at = Position { place: root, on };
     let mut end = page.roots;
-    let mut passed = 0;
-    while passed < 4 {
+    for passed in 0..4 {
         let side = key_bit(key, level + passed);
-        at = step(word, before, page.roots, end, at, side, passed < 3);
+        at = step(words, page.roots, end, at, side, passed < 3);
         // the on bits up to here lead to the nodes of the next level and of those above it, but for the roots
-        end = page.roots + on_bits_before(word, before, end);
-        passed += 1;
+        end = page.roots + words.on_bits_before(end);
     }
     // the fourth level's on bits are counted on from the page's nodes
     let link = OutLink(page.b.0 + (at.place - page.nodes));
@@ -160,23 +153,20 @@ pub(crate) fn through_page(
     on: bool,
     key: u32,
     level: usize,
-) -> Way
+) -> Result<Way, Refusal>
     requires { (at + 64 ≤ length image.now) × (1 ≤ roots) × (roots ≤ 60) × (root < roots) × (level + 4 ≤ 32) }
     ensures { way_outcome result ≡ settle (node_questions roots (pairs_at image.now at)) (Paged.renumbered (number_at image.now (at + 2) +◌) (Paged.follow key level (levels_in 4 roots (pairs_at image.now at)) (way_at on root))) }
 {
     let words = gather(image, at);
-    let third = third_level(&words.word, &words.before, roots);
-    let fourth = fourth_level(&words.word, &words.before, roots, third);
-    let shape = check_nodes(&words.word, &words.before, roots, fourth);
-    if shape.refusal != 0 {
-        return Way::Refused(shape.refusal);
-    }
+    let third = third_level(&words, roots);
+    let fourth = fourth_level(&words, roots, third);
+    let shape = check_nodes(&words, roots, fourth)?;
     let page = Judged {
         roots,
         nodes: shape.nodes,
         b: OutLink(number(image, at + 2)),
     };
-    follow(&words.word, &words.before, page, root, on, key, level)
+    Ok(follow(&words, page, root, on, key, level))
 }
 
 // The same in a page of an accepted image, which is not judged again: its nodes are counted by its out-links.
@@ -188,24 +178,14 @@ pub(crate) fn through_accepted_page(
     key: u32,
 ) -> Way
     requires { (Ready image.now) × (HeadRead image.now head) × (head.t.0 ≤ root.0) × (root.0 < head.t.0 + head.roots) }
-    ensures { way_outcome result ≡ settle (node_questions head.roots (pairs_at image.now (64 * head.number))) (Paged.renumbered (number_at image.now (64 * head.number + 2) +◌) (Paged.follow key (4 * (head.band - 1)) (levels_in 4 head.roots (pairs_at image.now (64 * head.number))) (way_at on (root.0 - head.t.0)))) }
+    ensures { returns (way_of result) ≡ settle (node_questions head.roots (pairs_at image.now (64 * head.number))) (Paged.renumbered (number_at image.now (64 * head.number + 2) +◌) (Paged.follow key (4 * (head.band - 1)) (levels_in 4 head.roots (pairs_at image.now (64 * head.number))) (way_at on (root.0 - head.t.0)))) }
 {
     let words = gather(image, 64 * head.number);
-    let nodes = node_count(head, &words.before);
-    let b = head.b;
     let page = Judged {
         roots: head.roots,
-        nodes,
-        b,
+        nodes: head.node_count(&words),
+        b: head.b,
     };
     let level = 4 * (head.band - 1);
-    follow(
-        &words.word,
-        &words.before,
-        page,
-        root.0 - head.t.0,
-        on,
-        key,
-        level,
-    )
+    follow(&words, page, root.0 - head.t.0, on, key, level)
 }

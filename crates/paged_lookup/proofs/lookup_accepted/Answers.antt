@@ -9,4 +9,4 @@ pub walk-requires : goal.walk-requires
 walk-requires c = (header-yes _ (facts _ c.requires).all_yes, λ _. c.requires)
 
 pub returns : goal.returns
-returns c = lookup-done _ _ _ (header-yes _ (facts _ c.requires).all_yes) c.weave.ensures _ _ c.walk.ensures
+returns c = lookup-done _ _ _ (header-yes _ (facts _ c.requires).all_yes) c.weave.ensures _ c.walk.ensures

@@ -1,24 +1,24 @@
 -- `paged_lookup::walk` meets its contract. Assumes nothing.
 use mathlib.Core.Path.{sym, ap, ◌∙◌}
-use Prim.Native.Nat.{◌+◌}
 use native.Mathlib.Omega.{arith}
+use Rattle.std.proofs.lemmas.Result.{err_from_is_err_and}
 use Rattle.nodes.proofs.Numbers.{bytes_of}
-use Rattle.paged_lookup.proofs.Walking.{LeftBy, absent_is, refused_is, header-yes_of, no_keys_answer, walking_start, walking_band, walking_refused, walking_ends, left_on, left_off, walking_page, walking_next, walking_listed, walking_absent}
-use Rattle.paged_lookup.proofs.walk.Goals.{Joined-way, in-Out, in-Off+else-figure-links_due}
+use Rattle.paged_lookup.proofs.Walking.{header-yes_of, no_keys_answer, walking_start, walking_band, walking_refused, walking_ends, left_on, left_off, walking_page, walking_next, walking_listed, walking_absent}
+use Rattle.paged_lookup.proofs.walk.Goals.{in-Out, in-Off+else-figure-links_due}
 use Rattle.paged_lookup.proofs.walk.Goals as goal
 
 pub key_count-keys-requires : goal.key_count-keys-requires
 key_count-keys-requires c = (header-yes_of _ c.requires.0).long
 
 pub returns-then-keys-eq0 : goal.returns-then-keys-eq0
-returns-then-keys-eq0 c = let n = c.no_pages.ensures in absent_is (no_keys_answer _ _ (sym c.key_count-keys.ensures.0 ∙ c.if-keys-eq0.true)) n.0 n.1
+returns-then-keys-eq0 c = no_keys_answer _ _ (sym c.key_count-keys.ensures.0 ∙ c.if-keys-eq0.true)
 
 pub loop-passed-init : goal.loop-passed-init
 loop-passed-init c =
     walking_start c.args.key (bytes_of c.args.image.now (λ i. (c.type_inv.image i).fits)) c.requires.0 (λ z. c.if-keys-eq0.false (c.key_count-keys.ensures.0 ∙ z))
 
-pub through-step-requires : goal.through-step-requires
-through-step-requires c =
+pub through-requires : goal.through-requires
+through-requires c =
     let s = c.loop-passed.invariant in
     let p = c.requires in (
       λ a. record { accepted = p.1 a; some = omega (arith, c.if-keys-eq0.false, c.key_count-keys.ensures.0) },
@@ -26,50 +26,23 @@ through-step-requires c =
       omega (arith, s.link_in c.loop-passed-test.true, ap (λ x. x.0) c.cross.ensures),
     )
 
-pub returns-in-Refused : goal.returns-in-Refused
-returns-in-Refused c =
-    let n = c.no_pages-in-Refused.ensures in
-    refused_is (walking_refused c.loop-passed.invariant c.loop-passed-test.true (ap (λ x. x.0) c.cross.ensures) c.through-step.ensures c.in-Refused.is) n.0 n.1
+pub returns-in_err-step : goal.returns-in_err-step
+returns-in_err-step c =
+    let p = err_from_is_err_and c.from_residual.result c.from_residual.ensures.1 in
+    rw (p.1, p.2) (walking_refused c.loop-passed.invariant c.loop-passed-test.true (ap (λ x. x.0) c.cross.ensures) _ c.in_err-step.ensures.outcome)
 
 pub links_due-requires : goal.links_due-requires
 links_due-requires c = (c.loop-passed.invariant.header.long, omega (arith, c.loop-passed-test.true))
 
 pub returns-then-figure-links_due : goal.returns-then-figure-links_due
 returns-then-figure-links_due c =
-    let n = c.no_pages-then-figure-links_due.ensures in
-    absent_is
-    (walking_ends c.loop-passed.invariant c.loop-passed-test.true (ap (λ x. x.0) c.cross.ensures) c.through-step.ensures c.in-Off.is (c.if-figure-links_due.true ∙ c.links_due.ensures.0) c.key_count-keys.ensures.0) n.0 n.1
-
--- where a band has been left
-left : (c : Joined-way) → LeftBy c.args.image.now (c.loop-passed.passed + 1) c.through-step.result c.match-way.link c.match-way.on
-left c =
-    let s = c.loop-passed.invariant in
-    let h = c.loop-passed-test.true in
-    let r = ap (λ x. x.0) c.cross.ensures in
-    elim c.match-way.branch [
-      | in-Out w ↦ rw (w.link-is, w.on-is) (left_on s h r c.through-step.ensures w.in-Out.is)
-      | in-Off+else-figure-links_due w ↦ rw (w.link-is, w.on-is) (left_off s h r c.through-step.ensures w.in-Off.is (λ e. w.if-figure-links_due.false (e ∙ sym w.links_due.ensures.0)))
-    ]
-
-pub overflow_cast-pages : goal.overflow_cast-pages
-overflow_cast-pages c =
-    let s = c.loop-passed.invariant in
-    let h = c.loop-passed-test.true in
-    let r = ap (λ x. x.0) c.cross.ensures in
-    record { fits = walking_page s h r c.through-step.ensures (left (goal.at.overflow_cast-pages c).Joined-way) }
+    walking_ends c.loop-passed.invariant c.loop-passed-test.true (ap (λ x. x.0) c.cross.ensures) c.in_ok-step.ensures c.in-Off.is (c.if-figure-links_due.true ∙ c.links_due.ensures.0) c.key_count-keys.ensures.0
 
 pub page_count-first-requires : goal.page_count-first-requires
 page_count-first-requires c = (c.loop-passed.invariant.header.long, omega (arith, c.loop-passed-test.true))
 
 pub overflow_add-first : goal.overflow_add-first
 overflow_add-first c = omega (arith, c.loop-passed.invariant.few, c.loop-passed-test.true, c.page_count-first.ensures.1)
-
-pub loop-passed-preserved : goal.loop-passed-preserved
-loop-passed-preserved c =
-    let s = c.loop-passed.invariant in
-    let h = c.loop-passed-test.true in
-    let r = ap (λ x. x.0) c.cross.ensures in
-    walking_next s h r c.through-step.ensures (left (goal.at.loop-passed-preserved c).Joined-way) c.page_count-first.ensures.0 c.page_count-first.ensures.1
 
 pub overflow_cast-result : goal.overflow_cast-result
 overflow_cast-result c = omega (arith, c.loop-passed.invariant.link_small)
@@ -78,4 +51,28 @@ pub returns-then-on : goal.returns-then-on
 returns-then-on c = walking_listed c.loop-passed.invariant c.loop-passed-test.false c.if-on.true
 
 pub returns : goal.returns
-returns c = let n = c.no_pages-2.ensures in absent_is (walking_absent c.loop-passed.invariant c.loop-passed-test.false c.if-on.false) n.0 n.1
+returns c = walking_absent c.loop-passed.invariant c.loop-passed-test.false c.if-on.false
+
+-- where a band has been left, by an out-link or by a figure
+pub overflow_cast-pages : goal.overflow_cast-pages
+overflow_cast-pages c =
+    let s = c.loop-passed.invariant in
+    let h = c.loop-passed-test.true in
+    let r = ap (λ x. x.0) c.cross.ensures in
+    let q = c.in_ok-step.ensures in
+    elim c.match-step.branch [
+      | in-Out w ↦ record { fits = walking_page s h r q (left_on s h r q w.in-Out.is) }
+      | in-Off+else-figure-links_due w ↦ record { fits = walking_page s h r q (left_off s h r q w.in-Off.is (λ e. w.if-figure-links_due.false (e ∙ sym w.links_due.ensures.0))) }
+    ]
+
+pub loop-passed-preserved : goal.loop-passed-preserved
+loop-passed-preserved c =
+    let s = c.loop-passed.invariant in
+    let h = c.loop-passed-test.true in
+    let r = ap (λ x. x.0) c.cross.ensures in
+    let q = c.in_ok-step.ensures in
+    let n = c.page_count-first.ensures in
+    elim c.match-step.branch [
+      | in-Out w ↦ rw (w.link-is, w.on-is) (walking_next s h r q (left_on s h r q w.in-Out.is) n.0 n.1)
+      | in-Off+else-figure-links_due w ↦ rw (w.link-is, w.on-is) (walking_next s h r q (left_off s h r q w.in-Off.is (λ e. w.if-figure-links_due.false (e ∙ sym w.links_due.ensures.0))) n.0 n.1)
+    ]

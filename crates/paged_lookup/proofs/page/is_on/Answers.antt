@@ -10,7 +10,7 @@ node_at-requires c = c.requires c.if-from.true
 pub returns-then-from : goal.returns-then-from
 returns-then-from c =
     let a = c.args in
-    after_on a.word.now a.from.place a.side c.if-from.true (c.bit_of.ensures ∙ ap (bit a.side) c.node_at.ensures.0)
+    after_on a.words.now.word a.from.place a.side c.if-from.true (c.bit_of.ensures ∙ ap (bit a.side) c.node_at.ensures.0)
 
 pub returns : goal.returns
-returns c = let a = c.args in after_off a.word.now a.from.place a.side c.if-from.false
+returns c = let a = c.args in after_off a.words.now.word a.from.place a.side c.if-from.false

@@ -23,13 +23,13 @@ overflow_add-result c =
 pub returns-then-from : goal.returns-then-from
 returns-then-from c =
     let a = c.args in
-    let e = child_is a.word.now a.before.now a.roots a.from.place a.side c.requires.3 in
+    let e = child_is a.words.now.word a.words.now.before a.roots a.from.place a.side c.requires.3 in
     let h = ap (λ n. a.side * (n / 2)) c.node_at.ensures.0 in
-    let is : a.roots + c.on_bits_before.result + a.side * (c.node_at.result / 2) ≡ child_in a.word.now a.before.now a.roots a.from.place a.side = omega (arith, c.on_bits_before.ensures.0) in
-    (is ∙ place_on a.word.now a.before.now a.roots a.from.place a.side c.if-from.true, omega (arith, small c.args.side c.node_at.result c.requires.3 (omega (arith, c.node_at.ensures.1)), c.on_bits_before.ensures.1, c.requires.2))
+    let is : a.roots + c.on_bits_before.result + a.side * (c.node_at.result / 2) ≡ child_in a.words.now.word a.words.now.before a.roots a.from.place a.side = omega (arith, c.on_bits_before.ensures.0) in
+    (is ∙ place_on a.words.now.word a.words.now.before a.roots a.from.place a.side c.if-from.true, omega (arith, small c.args.side c.node_at.result c.requires.3 (omega (arith, c.node_at.ensures.1)), c.on_bits_before.ensures.1, c.requires.2))
 
 pub returns : goal.returns
 returns c =
     let a = c.args in
-    let e = place_off a.word.now a.before.now a.roots a.from.place a.side c.if-from.false in
+    let e = place_off a.words.now.word a.words.now.before a.roots a.from.place a.side c.if-from.false in
     (omega (arith, c.on_bits_before.ensures.0), omega (arith, c.on_bits_before.ensures.1, c.requires.2))

@@ -12,11 +12,11 @@ use Rattle.paged_lookup.proofs.page.step.Goals.{Then-inner}
 use Rattle.paged_lookup.proofs.page.step.Goals as goal
 
 -- the key's bit is on, and so were all before it
-all_on : (c : Then-inner) → (c.args.from.on ≡ true) × (1 ≤ bit c.args.side (node_in c.args.word.now c.args.from.place))
-all_on c = let a = c.args in still_on a.from.on (bit a.side (node_in a.word.now a.from.place)) c.is_on-on.ensures c.if-on.true
+all_on : (c : Then-inner) → (c.args.from.on ≡ true) × (1 ≤ bit c.args.side (node_in c.args.words.now.word c.args.from.place))
+all_on c = let a = c.args in still_on a.from.on (bit a.side (node_in a.words.now.word a.from.place)) c.is_on-on.ensures c.if-on.true
 
 -- so there is a node, on one of the first three levels
-node : (c : Then-inner) → let a = c.args in NodeOn a.word.now a.before.now a.roots a.end a.from.place
+node : (c : Then-inner) → let a = c.args in NodeOn a.words.now.word a.words.now.before a.roots a.end a.from.place
 node c = c.requires.2 c.if-inner.true (all_on c).0
 
 pub is_on-on-requires : goal.is_on-on-requires
@@ -31,7 +31,7 @@ returns-then-inner c =
     let w = (goal.at.returns-then-inner c).Then-inner in
     let o = all_on w in
     let small = c.requires.4 in (
-      c.child_place.ensures ∙ steps_counted (node w) a.side small o.1 ∙ place_on a.word.now a.before.now a.roots a.from.place a.side o.0,
+      c.child_place.ensures ∙ steps_counted (node w) a.side small o.1 ∙ place_on a.words.now.word a.words.now.before a.roots a.from.place a.side o.0,
       omega (arith, c.child_place.ensures, steps_within (node w) a.side small o.1),
       c.is_on-on.ensures,
     )

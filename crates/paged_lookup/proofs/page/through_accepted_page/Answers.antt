@@ -10,13 +10,13 @@ overflow_mul-head c = let p = c.requires in omega (arith, head_fits p.0 p.1)
 pub gather-words-requires : goal.gather-words-requires
 gather-words-requires c = let p = c.requires in head_fits p.0 p.1
 
-pub node_count-nodes-requires : goal.node_count-nodes-requires
-node_count-nodes-requires c = let p = c.requires in nodes_asked p.0 p.1 c.gather-words.ensures
+pub node_count-requires : goal.node_count-requires
+node_count-requires c = let p = c.requires in nodes_asked p.0 p.1 c.gather-words.ensures
 
 pub follow-requires : goal.follow-requires
 follow-requires c =
     let p = c.requires in
-    (head_judged p.0 p.1 c.gather-words.ensures c.node_count-nodes.ensures, omega (arith, p.2, p.3), omega (arith, p.1.to), head_small p.0 p.1)
+    (head_judged p.0 p.1 c.gather-words.ensures c.node_count.ensures, omega (arith, p.2, p.3), omega (arith, p.1.to), head_small p.0 p.1)
 
 pub returns : goal.returns
 returns c =
