@@ -13,11 +13,9 @@ use Rattle.format.specs.Key.{holder_of, key_of, slot_of, unwoven}
 use Rattle.format.specs.Image.{key_count, keys_of, list_of}
 use Rattle.format.specs.Question.{Question, Outcome, refused, returns, filled, first_no, image_questions, outcome, settle}
 use Rattle.format.specs.Exact.{Accepted}
-use Rattle.format.specs.Answer.{buffer_after_listing, check, count, find, listing, lookup, lookup_answer, member_keys, places_question, rectangle_question}
+use Rattle.format.specs.Answer.{LookupAnswer, buffer_after_listing, check, count, find, listing, lookup, lookup_answer, member_keys, places_question, rectangle_question}
 use Rattle.format.proofs.Jobs.{settle_no}
 use Rattle.checker.proofs.After.{refused_no, refused_job, returned_count, accepted_job}
-use Rattle.paged_lookup.specs.declared.Presence.{Presence}
-use Rattle.paged_lookup.specs.Outcomes.{lookup_outcome, NoPages}
 use Rattle.paged_lookup.specs.Paged.{paged_lookup}
 use Rattle.paged_lookup.proofs.EightPages.{eight_pages}
 use Rattle.walk.specs.Walk.{Listed as QListed}
@@ -38,18 +36,13 @@ next_question q qs a e = rw e
 
 -- ---- lookup
 
--- the answer of a lookup is right
-abbrev pub LookupIs : List ℕ → ℕ → ℕ → Presence → List ℕ → Type 0
-LookupIs img holder slot answer pages = (lookup_outcome answer pages ≡ lookup img holder slot) × NoPages answer pages
-
-module _ (img : List ℕ) (n holder slot : ℕ) (answer : Presence) (pages : List ℕ) where
-  pub lookup_refused : refused n ≡ check img → answer ≡ Presence.Refused n → pages ≡ replicate 8 0 → LookupIs img holder slot answer pages
-  unfolding lookup_outcome lookup
-  lookup_refused e a p = rw a (sym (settle_no (image_questions img) (lookup_answer img (key_of holder slot)) n (refused_no img n e)), p)
+pub lookup_refused : (img : List ℕ) (n holder slot : ℕ) → refused n ≡ check img → refused n ≡ lookup img holder slot
+unfolding lookup
+lookup_refused img n holder slot e = sym (settle_no (image_questions img) (lookup_answer img (key_of holder slot)) n (refused_no img n e))
 
 -- in an accepted image the eight-page lookup is the full one
-pub lookup_agrees : (img : List ℕ) (holder slot : ℕ) (answer : Presence) (pages : List ℕ) → Accepted img → (lookup_outcome answer pages ≡ paged_lookup img holder slot) × NoPages answer pages → LookupIs img holder slot answer pages
-lookup_agrees img holder slot answer pages a f = (f.0 ∙ eight_pages.agrees img a holder slot, f.1)
+pub lookup_agrees : (img : List ℕ) (holder slot : ℕ) (o : Outcome LookupAnswer) → Accepted img → o ≡ paged_lookup img holder slot → o ≡ lookup img holder slot
+lookup_agrees img holder slot o a f = f ∙ eight_pages.agrees img a holder slot
 
 -- ---- rectangles
 

@@ -12,7 +12,8 @@ use Rattle.paged_lookup.proofs.band.through_judged.Goals as goal
 pub last_page-requires : goal.last_page-requires
 last_page-requires c = band_fits c.requires.0 c.page_count-pages.ensures.0
 
--- where no page has been found, every T of the band is above the root
+-- where no page has been found,
+-- every T of the band is above the root
 pub returns-in_default : goal.returns-in_default
 returns-in_default c = record { outcome = step-none c.args.image.now c.args.key c.args.band c.args.on c.args.root.0 (none_found c.requires.0 c.page_count-pages.ensures.0 c.in_default.ensures); page_is = tt }
 
