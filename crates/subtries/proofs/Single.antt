@@ -8,7 +8,7 @@ use native.Mathlib.Omega.{arith}
 use lib.Count.{ones, ones_cat, ones-le}
 use lib.ListN.{take, drop}
 use Rattle.reader.specs.Page.{node_of}
-use Rattle.subtries.specs.declared.Spot.{Spot}
+use Rattle.subtries.specs.declared.spot.Spot.{Spot}
 use Rattle.pages.specs.Page.{Ready}
 use Rattle.subtries.specs.Spot.{SpotAt, root_prefix}
 use Rattle.subtries.specs.Subtrie.{place_after, bits_after, if_on, path_set, SubtrieRead}

@@ -12,7 +12,7 @@ use Rattle.format.specs.Image.{page_pairs, page_roots, page_t, prefixes_at}
 use Rattle.format.proofs.Descent.{on_bits-suc}
 use Rattle.format.proofs.Levels.{child_place}
 use Rattle.format.proofs.Read.{pairs_240}
-use Rattle.subtries.specs.declared.Spot.{Spot}
+use Rattle.subtries.specs.declared.spot.Spot.{Spot}
 use Rattle.pages.specs.Page.{Ready}
 use Rattle.subtries.specs.Spot.{LevelStart, SpotAt, root_prefix}
 use Rattle.subtries.specs.OnBits.{on_bits_from}

@@ -20,7 +20,7 @@ use Rattle.reader.specs.Page.{node_of}
 use Rattle.reader.proofs.Nodes.{pair_at}
 use Rattle.nodes.specs.Words.{words_of}
 use Rattle.pages.specs.declared.Page.{Page}
-use Rattle.subtries.specs.declared.Spot.{Spot}
+use Rattle.subtries.specs.declared.spot.Spot.{Spot}
 use Rattle.pages.specs.Page.{Ready, PageRead}
 use Rattle.subtries.specs.Spot.{LevelStart, SpotAt, root_prefix}
 use Rattle.subtries.specs.Subtrie.{as_bit, set_of, level_set, place_after, bits_after, start_in, StartsRight, SubtrieRead}

@@ -5,7 +5,8 @@ use Rattle.std.specs.Prelude.{◌≡◌, ℕ, ◌+◌, ◌-◌, ◌*◌, ◌≤�
 use Rattle.format.specs.Seq.{rank_in}
 use Rattle.format.specs.Image.{page_count, page_number, page_roots, page_t, depth, prefixes_at}
 use Rattle.format.specs.Place.{Reached}
-use Rattle.subtries.specs.declared.Spot.{Spot}
+use Rattle.subtries.specs.declared.spot.Spot.{Spot}
+use Rattle.subtries.specs.declared.spot.TheConstants.{NO_SPOT}
 
 -- a node of level l with prefix y
 pub record ReachedTo (img : List ℕ) (b i l y : ℕ) : Type 0 where
@@ -41,40 +42,26 @@ pub record SpotAt (img : List ℕ) (b : ℕ) (spot : Spot) : Type 0 where
   pub start₃ : LevelStart img b i 3 8 (2 * (2 * (2 * root_prefix img b spot.root.0))) spot.fourth
   pub link_is : spot.link.0 ≡ rank_in (prefixes_at img (4 * b)) (16 * root_prefix img b spot.root.0)
 
--- the spots of the eight bands, eight numbers each
-abbrev pub spot_in : List ℕ → ℕ → Spot
-spot_in l e =
-    record {
-      root = record { 0 = get_or l e 0 };
-      end = record { 0 = get_or l (e + 1) 0 };
-      at = get_or l (e + 2) 0;
-      first = get_or l (e + 3) 0;
-      second = get_or l (e + 4) 0;
-      third = get_or l (e + 5) 0;
-      fourth = get_or l (e + 6) 0;
-      link = record { 0 = get_or l (e + 7) 0 };
-    }
+-- the spot of a band is right, or the band has none: the root is not before the end
+abbrev pub Standing : List ℕ → ℕ → Spot → Type 0
+Standing img b spot = spot.root.0 < spot.end.0 → SpotAt img b spot
+
+-- the spot of band b, of those of the eight bands
+abbrev pub spot_in : List Spot → ℕ → Spot
+spot_in l b = get_or l (b - 1) NO_SPOT
 
 -- the root and the end of the spot of band b
-abbrev pub root_in : List ℕ → ℕ → ℕ
-root_in l b = get_or l (8 * (b - 1)) 0
+abbrev pub root_in : List Spot → ℕ → ℕ
+root_in l b = (spot_in l b).root.0
 
-abbrev pub end_in : List ℕ → ℕ → ℕ
-end_in l b = get_or l (8 * (b - 1) + 1) 0
+abbrev pub end_in : List Spot → ℕ → ℕ
+end_in l b = (spot_in l b).end.0
 
--- the eight numbers put
-abbrev pub with_spot : List ℕ → ℕ → Spot → List ℕ
-with_spot l e spot =
-    set (set (set (set (set (set (set (set l e spot.root.0) (e + 1) spot.end.0) (e + 2) spot.at) (e + 3) spot.first) (e + 4) spot.second) (e + 5) spot.third) (e + 6) spot.fourth) (e + 7) spot.link.0
+-- the spot of a band put
+abbrev pub with_spot : List Spot → ℕ → Spot → List Spot
+with_spot l b spot = set l (b - 1) spot
 
--- the root moved on by one and its place put, and the numbers put that change with it
-abbrev pub with_root : List ℕ → ℕ → ℕ → List ℕ
-with_root l e first = set (set l e (get_or l e 0 + 1)) (e + 3) first
-
-abbrev pub with_starts : List ℕ → ℕ → ℕ → ℕ → ℕ → ℕ → List ℕ
-with_starts l e second third fourth link = set (set (set (set l (e + 4) second) (e + 5) third) (e + 6) fourth) (e + 7) link
-
--- each band's spot is right, or it has none: its root is not before its end
-pub record Spots (img state : List ℕ) : Type 0 where
-  pub long : length state ≡ 64
-  pub each : (b : ℕ) → 1 ≤ b → b ≤ 8 → root_in state b < end_in state b → SpotAt img b (spot_in state (8 * (b - 1)))
+-- each band's spot is right, or it has none
+pub record Spots (img : List ℕ) (spots : List Spot) : Type 0 where
+  pub long : length spots ≡ 8
+  pub each : (b : ℕ) → 1 ≤ b → b ≤ 8 → Standing img b (spot_in spots b)

@@ -5,7 +5,7 @@ ghost use Rattle.reader.specs.Page.{node_of};
 ghost use Rattle.subtries.specs.Subtrie.{bits_after, path_set, place_after, start_in, StartsRight};
 
 use crate::word::top;
-use nodes::on_bits_before;
+use nodes::Words;
 use reader::read_nodes;
 
 // Node `at` of a page.
@@ -34,7 +34,7 @@ pub fn path_set(one: u32, two: u32, three: u32, four: u32) -> u32
 }
 
 // A level of a subtrie: the bits of its nodes, and the place after them.
-#[derive(Clone, Copy)]
+#[derive(Clone, Copy, Debug, PartialEq, Eq)]
 pub struct Level {
     pub bits: u32,
     pub place: usize,
@@ -57,10 +57,8 @@ pub fn next_level(page: &[u8], place: usize, set: u32, width: usize) -> Level
     let mut nodes = read_nodes(page, place, 8);
     let mut bits = 0u32;
     let mut at = place;
-    let mut left = width;
-    while 0 < left {
-        left -= 1;
-        let on = bit(set, left);
+    for passed in 0..width {
+        let on = bit(set, width - 1 - passed);
         bits = 4 * bits + on * top(nodes);
         nodes = nodes << (2 * on);
         at += on as usize;
@@ -69,7 +67,7 @@ pub fn next_level(page: &[u8], place: usize, set: u32, width: usize) -> Level
 }
 
 // Where the levels of a subtrie after its root start in the page, and where its out-links start past the page's nodes.
-#[derive(Clone, Copy)]
+#[derive(Clone, Copy, Debug, PartialEq, Eq)]
 pub struct Starts {
     pub second: usize,
     pub third: usize,
@@ -78,22 +76,17 @@ pub struct Starts {
 }
 
 // The starts of the subtrie whose root stands at place `first`.
-pub fn level_starts<'a>(
-    word: &'a [u64; 9],
-    before: &'a [u16; 9],
-    roots: usize,
-    first: usize,
-) -> Starts
-    requires { (roots ≤ 60) × (first ≤ 240) × (start_in word.now before.now roots first 1 ≤ 240) × (start_in word.now before.now roots first 2 ≤ 240) × (start_in word.now before.now roots first 3 ≤ 240) }
-    ensures { StartsRight word.now before.now roots first result.second result.third result.fourth result.past }
+pub fn level_starts(words: &Words, roots: usize, first: usize) -> Starts
+    requires { (roots ≤ 60) × (first ≤ 240) × (start_in words.now.word words.now.before roots first 1 ≤ 240) × (start_in words.now.word words.now.before roots first 2 ≤ 240) × (start_in words.now.word words.now.before roots first 3 ≤ 240) }
+    ensures { StartsRight words.now.word words.now.before roots first result.second result.third result.fourth result.past }
 {
-    let second = roots + on_bits_before(word, before, first);
-    let third = roots + on_bits_before(word, before, second);
-    let fourth = roots + on_bits_before(word, before, third);
+    let second = roots + words.on_bits_before(first);
+    let third = roots + words.on_bits_before(second);
+    let fourth = roots + words.on_bits_before(third);
     Starts {
         second,
         third,
         fourth,
-        past: roots + on_bits_before(word, before, fourth),
+        past: roots + words.on_bits_before(fourth),
     }
 }

@@ -1,44 +1,30 @@
 -- `subtries::next_subtrie` meets its contract. Assumes nothing.
-use mathlib.Core.List.{List}
 use mathlib.Core.Path.{◌≡◌, sym, subst}
-use Prim.Native.Nat.{ℕ, ◌<◌}
 use native.Mathlib.Omega.{arith}
-use Rattle.subtries.specs.Spot.{Spots, end_in, root_in}
+use Rattle.subtries.specs.declared.spot.Spot.{Spot}
+use Rattle.subtries.specs.Spot.{SpotAt}
+use Rattle.subtries.proofs.Kept.{spots_keep}
 use Rattle.subtries.proofs.Subtries.{read_same}
 use Rattle.subtries.proofs.next_subtrie.Goals as goal
-use Rattle.subtries.proofs.next_subtrie.Goals.{Joined-state-e-2, then-state-e-2, else-state-e-2}
+use Rattle.subtries.proofs.next_subtrie.Goals.{Joined-spot-root, then-spot-root, else-spot-root+else-spot-root-2}
 
--- where the reading of a band stands
-abbrev Standing : List ℕ → List ℕ → ℕ → ℕ → Type 0
-Standing img state b root = (Spots img state) × (root_in state b ≡ root) × (root < end_in state b)
-
--- after both tests
-standing : (c : Joined-state-e-2) → Standing c.args.image.now c.if-state-e-2.state c.args.number c.args.root.0
+-- after both tests the spot is at the root
+standing : (c : Joined-spot-root) → let spot = c.if-spot-root.spot in (SpotAt c.args.image.now c.args.number spot) × (spot.root.0 ≡ c.args.root.0)
 standing c =
-    let at : List ℕ → Type 0 = λ l. Standing c.args.image.now l c.args.number c.args.root.0 in
-    elim c.if-state-e-2.branch [
-      | then-state-e-2 w ↦ subst at (sym w.state-is) w.seek-then-state-e-2.ensures
-      | else-state-e-2 w ↦ subst at (sym w.state-is) (c.requires.4, omega (arith, c.if-state-e.false), omega (arith, w.if-state-e-2.false))
+    let at : Spot → Type 0 = λ spot. (SpotAt c.args.image.now c.args.number spot) × (spot.root.0 ≡ c.args.root.0) in
+    let p = c.requires in
+    elim c.if-spot-root.branch [
+      | then-spot-root w ↦ subst at (sym w.spot-is) w.seek.ensures
+      | else-spot-root+else-spot-root-2 w ↦ subst at (sym w.spot-is) (p.4.each _ p.1 p.2 (omega (arith, w.if-spot-root.false, w.if-spot-root-2.false)), w.if-spot-root.false)
     ]
 
+pub seek-requires : goal.seek-requires
+seek-requires c = let p = c.requires in (p.0, p.1, p.2, p.3, p.4.each _ p.1 p.2)
+
 pub advance-requires : goal.advance-requires
-advance-requires c =
-    let p = c.requires in
-    let s = c.seek.ensures in
-    (p.0, p.1, p.2, s.0, omega (arith, s.1, s.2))
-
-pub returns-then-state-e : goal.returns-then-state-e
-returns-then-state-e c =
-    let a = c.args in
-    (read_same a.image.now a.number c.seek.ensures.1 c.advance.ensures.0, c.advance.ensures.1)
-
-pub advance-requires-2 : goal.advance-requires-2
-advance-requires-2 c =
-    let p = c.requires in
-    let s = standing (goal.at.advance-requires-2 c).Joined-state-e-2 in
-    (p.0, p.1, p.2, s.0, omega (arith, s.1, s.2))
+advance-requires c = let p = c.requires in (p.0, p.1, p.2, (standing c).0)
 
 pub returns : goal.returns
 returns c =
-    let a = c.args in
-    (read_same a.image.now a.number (standing (goal.at.returns c).Joined-state-e-2).1 c.advance-2.ensures.0, c.advance-2.ensures.1)
+    let p = c.requires in
+    (read_same c.args.image.now c.args.number (standing (goal.at.returns c).Joined-spot-root).1 c.advance.ensures.0, spots_keep p.4 _ p.1 p.2 c.advance.ensures.1)

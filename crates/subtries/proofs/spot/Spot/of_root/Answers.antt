@@ -1,11 +1,11 @@
--- `subtries::spot_of` meets its contract. Assumes nothing.
+-- `subtries::spot::Spot::of_root` meets its contract. Assumes nothing.
 use mathlib.Core.Path.{refl}
 use native.Mathlib.Omega.{arith}
 use Rattle.pages.proofs.Pages.{b_small, t_small, page_number_small}
 use Rattle.pages.proofs.PageWords.{page_small}
 use Rattle.subtries.proofs.Subtries.{starts_fit, link_is}
 use Rattle.subtries.proofs.Spots.{spot_made}
-use Rattle.subtries.proofs.spot_of.Goals as goal
+use Rattle.subtries.proofs.spot.Spot.of_root.Goals as goal
 
 pub level_starts-start-requires : goal.level_starts-start-requires
 level_starts-start-requires c =
