@@ -5,10 +5,13 @@ use mathlib.Core.List.{List, [], ◌∷◌, ◌++◌, append_assoc, append-nil, 
 use Prim.Native.Nat.{ℕ, ◌+◌, ◌*◌, ◌/◌, ◌%◌, ◌≤◌, ◌<◌}
 use native.Mathlib.Numerals.{add-one}
 use native.Mathlib.Omega.{arith}
-use lib.ListN.{length, get_or, take, drop, set, replicate, length-append, length-drop, take-append-drop}
+use lib.ListN.{length, get_or, take, drop, replicate, length-append, length-drop, take-append-drop}
 use lib.Seq.{take_at, take_all, take-suc, drop_at, drop-drop, length-take-le}
 use Rattle.format.specs.Page.{two_bytes}
 use Rattle.format.specs.Header.{header, header_end, header_start, mark, version_for}
+use Rattle.packing.specs.declared.BandCounts.{BandCounts}
+use Rattle.image_writer.specs.Image.{numbers_of}
+use Rattle.image_writer.proofs.Numbers.{length-numbers, pages_at, roots_at}
 use Rattle.format.proofs.HeaderBytes.{length_start, length_two, version_small}
 
 -- what is done, and then xs in place of the next k elements of l
@@ -22,19 +25,13 @@ unfolding flat_map two_bytes
 flat_more [] x = refl
 flat_more (y ∷ l) x = ap (two_bytes y ++◌) (flat_more l x)
 
--- the first six bytes stored one after the other
-pub start_stored : (lift v : ℕ) → v ≡ version_for lift → (l : List ℕ) → 64 ≤ length l → set (set (set (set (set (set l 0 0x4C) 1 0x50) 2 0x54) 3 0) 4 v) 5 0 ≡ header_start lift ++ drop 6 l
+-- the first six bytes
+pub start_stored : (lift : ℕ) → header_start lift ≡ 0x4C ∷ 0x50 ∷ 0x54 ∷ 0 ∷ version_for lift ∷ 0 ∷ []
 unfolding header_start mark two_bytes
-start_stored lift v e [] h = absurd (omega arith)
-start_stored lift v e (a ∷ []) h = absurd (omega arith)
-start_stored lift v e (a ∷ b ∷ []) h = absurd (omega arith)
-start_stored lift v e (a ∷ b ∷ c ∷ []) h = absurd (omega arith)
-start_stored lift v e (a ∷ b ∷ c ∷ d ∷ []) h = absurd (omega arith)
-start_stored lift v e (a ∷ b ∷ c ∷ d ∷ f ∷ []) h = absurd (omega arith)
-start_stored lift v e (a ∷ b ∷ c ∷ d ∷ f ∷ g ∷ l) h =
-    let hi : 0 ≡ version_for lift / 256 = omega (arith, version_small lift) in
-    let lo : v ≡ version_for lift % 256 = omega (arith, version_small lift) in
-    λ i. 0x4C ∷ 0x50 ∷ 0x54 ∷ hi i ∷ lo i ∷ 0 ∷ l
+start_stored lift =
+    let hi : version_for lift / 256 ≡ 0 = omega (arith, version_small lift) in
+    let lo : version_for lift % 256 ≡ version_for lift = omega (arith, version_small lift) in
+    λ i. 0x4C ∷ 0x50 ∷ 0x54 ∷ hi i ∷ lo i ∷ 0 ∷ []
 
 two : (n : ℕ) → length (two_bytes n) ≡ 2
 unfolding two_bytes
@@ -97,3 +94,16 @@ module _ (out₀ counts out : List ℕ) (i : ℕ) (s : Headed out₀ counts out 
       ∙ extended (done ++ two_bytes lift) out₀ (replicate 22 0) 42 22 z₁
       ∙ ap (◌++ drop 64 out₀) (append_assoc done (two_bytes lift) (replicate 22 0))
       ∙ ap₂ (λ (a b : List ℕ). ((a ++ flat_map two_bytes counts) ++ header_end lift) ++ b) first rest
+
+-- both counts of a band
+pub headed_band : (out₀ out out₁ out₂ : List ℕ) (bands : List BandCounts) (b : ℕ) (d : BandCounts) → Headed out₀ (numbers_of bands) out (2 * b) → b < 8
+    → out₁ ≡ take (8 + 4 * b) out ++ (two_bytes (get_or bands b d).pages ++ drop (8 + 4 * b + 2) out)
+    → out₂ ≡ take (10 + 4 * b) out₁ ++ (two_bytes (get_or bands b d).roots ++ drop (10 + 4 * b + 2) out₁)
+    → Headed out₀ (numbers_of bands) out₂ (2 * (b + 1))
+headed_band out₀ out out₁ out₂ bands b d s lt first second =
+    let within : b < length bands = omega (arith, s.sixteen, length-numbers bands) in
+    let at : 8 + 2 * (2 * b) ≡ 8 + 4 * b = omega arith in
+    let after : 8 + 2 * (2 * b + 1) ≡ 10 + 4 * b = omega arith in
+    let next : 2 * (b + 1) ≡ 2 * b + 1 + 1 = omega arith in
+    let s₁ = headed_next out₀ (numbers_of bands) out (2 * b) s out₁ (omega arith) (rw (at, pages_at bands b d within) first) in
+    rw next (headed_next out₀ (numbers_of bands) out₁ (2 * b + 1) s₁ out₂ (omega arith) (rw (after, roots_at bands b d within) second))

@@ -2,6 +2,8 @@
 
 -- a part put back
 pub mod Parts
+-- the counts of bands as numbers
+pub mod Numbers
 -- the pages of one band, and the header
 pub mod Band
 pub mod Header

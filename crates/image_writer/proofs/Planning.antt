@@ -18,7 +18,7 @@ use Rattle.format.proofs.RunHeads.{heads}
 use Rattle.format.proofs.Runs.{band_over, bands_of_keys}
 use Rattle.packing.specs.declared.BandCounts.{BandCounts}
 use Rattle.packing.specs.Run.{Prefixes, BandCounted, band_above, roots_above}
-use Rattle.image_writer.specs.Image.{counts_of, pages_in}
+use Rattle.image_writer.specs.Image.{numbers_of, counts_of, pages_in}
 use Rattle.image_writer.specs.Planning.{used_up, FirstPass}
 use Rattle.packing.proofs.Runs.{rest_run}
 use Rattle.packing.proofs.Bands.{roots_is, heads_few, heads_listed}
@@ -106,34 +106,31 @@ counts_stored b p r l =
     go (suc n) zero e = absurd (omega arith)
     go (suc n) (suc m) e = ap (0 ∷◌) (go n m (omega arith))
 
-module _ (keys : List ℕ) (n roots : ℕ) (after : List ℕ) (within : n ≤ length keys) (same : length after ≡ length (take (n - 0) keys)) (few : roots ≤ n) (lifted : take roots after ≡ roots_above (take (n - 0) keys)) where
+module _ (keys : List ℕ) (n roots : ℕ) (after : List ℕ) (within : n ≤ length keys) (same : length after ≡ length (take n keys)) (few : roots ≤ n) (lifted : take roots after ≡ roots_above (take n keys)) where
   part_length : length after ≡ n
-  part_length = let z : n - 0 ≡ n = omega arith in same ∙ ap (λ (k : ℕ). length (take k keys)) z ∙ length-take-le n keys within
+  part_length = same ∙ length-take-le n keys within
 
   -- the prefixes of the roots stand first
-  pub first_ones : take roots (after ++ drop (n - 0) keys) ≡ roots_above (take n keys)
-  first_ones =
-      let z : n - 0 ≡ n = omega arith in
-      take-append-le roots after (drop (n - 0) keys) (omega (arith, part_length)) ∙ lifted ∙ ap (λ (k : ℕ). roots_above (take k keys)) z
+  pub first_ones : take roots (after ++ drop n keys) ≡ roots_above (take n keys)
+  first_ones = take-append-le roots after (drop n keys) (omega (arith, part_length)) ∙ lifted
 
-  pub back_length : length (after ++ drop (n - 0) keys) ≡ length keys
-  back_length = omega (arith, length-append after (drop (n - 0) keys), part_length, length-drop (n - 0) keys)
+  pub back_length : length (after ++ drop n keys) ≡ length keys
+  back_length = omega (arith, length-append after (drop n keys), part_length, length-drop n keys)
 
 -- the band's roots take the first places, and no others
-module _ (keys₀ keys counts : List ℕ) (n b' p roots : ℕ) (after : List ℕ) (k : Kept keys₀ keys counts n (suc b')) (room : 2 * suc b' ≤ length counts) (b-few : b' < 8) (within : n ≤ length keys) (same : length keys ≡ length keys₀) (few : roots ≤ n) (all : length after ≡ n) (still : drop roots after ≡ drop roots (take (n - 0) keys)) where
-  rest-still : drop roots (after ++ drop (n - 0) keys) ≡ drop roots keys
+module _ (keys₀ keys counts : List ℕ) (n b' p roots : ℕ) (after : List ℕ) (k : Kept keys₀ keys counts n (suc b')) (room : 2 * suc b' ≤ length counts) (b-few : b' < 8) (within : n ≤ length keys) (same : length keys ≡ length keys₀) (few : roots ≤ n) (all : length after ≡ n) (still : drop roots after ≡ drop roots (take n keys)) where
+  rest-still : drop roots (after ++ drop n keys) ≡ drop roots keys
   rest-still =
-      let z : n - 0 ≡ n = omega arith in
-      drop-append-le roots after (drop (n - 0) keys) (omega arith)
-      ∙ ap (◌++ drop (n - 0) keys) still
-      ∙ sym (drop-append-le roots (take (n - 0) keys) (drop (n - 0) keys) (omega (arith, ap (λ (m : ℕ). length (take m keys)) z, length-take-le n keys within)))
-      ∙ ap (drop roots) (take-append-drop (n - 0) keys)
+      drop-append-le roots after (drop n keys) (omega arith)
+      ∙ ap (◌++ drop n keys) still
+      ∙ sym (drop-append-le roots (take n keys) (drop n keys) (omega (arith, length-take-le n keys within)))
+      ∙ ap (drop roots) (take-append-drop n keys)
 
-  after-roots : (u : ℕ) → roots ≤ u → drop u (after ++ drop (n - 0) keys) ≡ drop u keys
+  after-roots : (u : ℕ) → roots ≤ u → drop u (after ++ drop n keys) ≡ drop u keys
   after-roots u h =
       let e : roots + (u - roots) ≡ u = omega arith in
-      ap (λ (j : ℕ). drop j (after ++ drop (n - 0) keys)) (sym e)
-      ∙ sym (drop-drop (u - roots) roots (after ++ drop (n - 0) keys))
+      ap (λ (j : ℕ). drop j (after ++ drop n keys)) (sym e)
+      ∙ sym (drop-drop (u - roots) roots (after ++ drop n keys))
       ∙ ap (drop (u - roots)) rest-still
       ∙ drop-drop (u - roots) roots keys
       ∙ ap (λ (j : ℕ). drop j keys) e
@@ -141,7 +138,7 @@ module _ (keys₀ keys counts : List ℕ) (n b' p roots : ℕ) (after : List ℕ
   abbrev counts' : List ℕ
   counts' = set (set counts (2 * b') p) (2 * b' + 1) roots
 
-  kept_next : Kept keys₀ (after ++ drop (n - 0) keys) counts' roots b'
+  kept_next : Kept keys₀ (after ++ drop n keys) counts' roots b'
   kept_next =
       elim (ℕ_discrete b' 7) [
         | yes e ↦
@@ -171,14 +168,13 @@ module _ (keys₀ keys counts : List ℕ) (n b' p roots : ℕ) (after : List ℕ
       other e = get_or-set_other (set counts (2 * b') p) (2 * b' + 1) 15 roots 0 (λ h. e (omega arith)) ∙ get_or-set_other counts (2 * b') 15 p 0 (λ h. absurd (omega arith))
 
 module _ (keys₀ keys counts : List ℕ) (pages n b : ℕ) (s : Planning keys₀ keys counts pages n b) where
-  pub part_prefixes : Prefixes (take (n - 0) keys)
-  part_prefixes = let z : n - 0 ≡ n = omega arith in rw z s.listed
+  pub part_prefixes : Prefixes (take n keys)
+  part_prefixes = s.listed
 
   -- with the pages of the next band there are no more than the image has
-  pub planning_few : (r : BandCounts) (after : List ℕ) → 0 < b → BandCounted (take (n - 0) keys) r after → pages + r.pages ≤ 384
+  pub planning_few : (r : BandCounts) (after : List ℕ) → 0 < b → BandCounted (take n keys) r after → pages + r.pages ≤ 384
   unfolding pages_in total
   planning_few r after some c =
-      let z : n - 0 ≡ n = omega arith in
       let e : b ≡ suc (b - 1) = omega arith in
       let up = bands_up (b - 1) (roots_above (take n keys)) in
       let sum = ap (λ (l : List (List (List ℕ))). total (map page_count l)) (s.bands_are ∙ ap (λ (k : ℕ). bands_up k (take n keys) ++ s.done) e) in
@@ -190,32 +186,28 @@ module _ (keys₀ keys counts : List ℕ) (pages n b : ℕ) (s : Planning keys�
         s.pages_are,
         s.pages_few,
         c.pages_are,
-        ap (λ (k : ℕ). page_count (band_above (take k keys))) z,
       )
 
-  pub planning_next : (r : BandCounts) (after : List ℕ) → 0 < b → BandCounted (take (n - 0) keys) r after → length after ≡ length (take (n - 0) keys)
-      → Planning keys₀ (after ++ drop (n - 0) keys) (set (set counts (2 * (b - 1)) r.pages) (2 * (b - 1) + 1) r.roots) (pages + r.pages) r.roots (b - 1)
+  pub planning_next : (r : BandCounts) (after : List ℕ) → 0 < b → BandCounted (take n keys) r after → length after ≡ length (take n keys)
+      → Planning keys₀ (after ++ drop n keys) (set (set counts (2 * (b - 1)) r.pages) (2 * (b - 1) + 1) r.roots) (pages + r.pages) r.roots (b - 1)
   planning_next r after some c same = go (b - 1) (omega arith)
     where
-      z : n - 0 ≡ n
-      z = omega arith
+      q-length : length (take n keys) ≡ n
+      q-length = length-take-le n keys s.within
 
-      q-length : length (take (n - 0) keys) ≡ n
-      q-length = ap (λ (k : ℕ). length (take k keys)) z ∙ length-take-le n keys s.within
-
-      first-roots : take r.roots (after ++ drop (n - 0) keys) ≡ roots_above (take n keys)
+      first-roots : take r.roots (after ++ drop n keys) ≡ roots_above (take n keys)
       first-roots = first_ones keys n r.roots after s.within same (omega (arith, c.roots_few, q-length)) c.lifted
 
       pages-is : r.pages ≡ page_count (band_above (take n keys))
-      pages-is = c.pages_are ∙ ap (λ (k : ℕ). page_count (band_above (take k keys))) z
+      pages-is = c.pages_are
 
       roots-is' : r.roots ≡ roots_in (band_above (take n keys))
-      roots-is' = c.roots_are ∙ ap (λ (k : ℕ). roots_in (band_above (take k keys))) z
+      roots-is' = c.roots_are
 
       room : 2 * b ≤ length counts
       room = omega (arith, ap length s.counts_are, length-append (replicate (2 * b) 0) (flat_map band_counts s.done), length-replicate {A = ℕ} (2 * b) 0)
 
-      go : (b' : ℕ) → b ≡ suc b' → Planning keys₀ (after ++ drop (n - 0) keys) (set (set counts (2 * b') r.pages) (2 * b' + 1) r.roots) (pages + r.pages) r.roots b'
+      go : (b' : ℕ) → b ≡ suc b' → Planning keys₀ (after ++ drop n keys) (set (set counts (2 * b') r.pages) (2 * b' + 1) r.roots) (pages + r.pages) r.roots b'
       go b' e =
           record {
             listed = rw first-roots (roots_prefixes (take n keys) s.listed);
@@ -239,9 +231,9 @@ module _ (keys₀ keys counts : List ℕ) (pages n b : ℕ) (s : Planning keys�
           sum : pages + r.pages ≡ total (map page_count (band_above (take n keys) ∷ s.done))
           sum = unfold total in omega (arith, s.pages_are, pages-is)
 
-pub planning_end : (lift : ℕ) (keys₀ keys counts : List ℕ) (pages n b : ℕ) → Planning keys₀ keys counts pages n b → b ≤ 0 → FirstPass lift keys₀ keys (record { refusal = 0; lift = lift; counts = counts; pages = pages })
+pub planning_end : (lift : ℕ) (keys₀ keys : List ℕ) (bands : List BandCounts) (pages n b : ℕ) → Planning keys₀ keys (numbers_of bands) pages n b → b ≤ 0 → FirstPass lift keys₀ keys (record { lift = lift; bands = bands; pages = pages })
 unfolding counts_of pages_in used_up
-planning_end lift keys₀ keys counts pages n b s none =
+planning_end lift keys₀ keys bands pages n b s none =
     let z : b ≡ 0 = omega arith in
     let d : bands_of keys₀ ≡ s.done = s.bands_are ∙ ap (λ (k : ℕ). bands_up k (take n keys) ++ s.done) z in
     let sum : pages ≡ total (map page_count (bands_of keys₀)) = s.pages_are ∙ ap (λ (l : List (List (List ℕ))). total (map page_count l)) (sym d) in
@@ -251,7 +243,6 @@ planning_end lift keys₀ keys counts pages n b s none =
         pages_are = sum;
         few = omega (arith, sum, s.pages_few);
       };
-      no_refusal = refl;
       lift_is = refl;
       used_few = s.kept.some (omega arith);
       memory = record { free = s.same; kept = s.kept.rest (omega arith) };

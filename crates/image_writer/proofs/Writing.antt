@@ -12,7 +12,7 @@ use Rattle.format.proofs.HeaderBytes.{length_counts}
 use Rattle.format.proofs.WrittenPages.{length-band_bytes}
 use Rattle.image_writer.specs.declared.Plan.{Plan}
 use Rattle.packing.specs.Run.{Prefixes, band_above, roots_above}
-use Rattle.image_writer.specs.Image.{counts_of, pages_in, BandRoom, BandDone, ImageRoom, BandsDone, bytes_of_band, bytes_of_bands, pages_from}
+use Rattle.image_writer.specs.Image.{numbers_of, counts_of, pages_in, BandRoom, BandDone, ImageRoom, BandsDone, bytes_of_band, bytes_of_bands, pages_from}
 use Rattle.image_writer.proofs.Planning.{bands_up, bands_up_lem, roots_prefixes, page_count, pages_append, first_ones, back_length}
 
 -- the pages before `first` are left: those of the bands above the first n of keys, b of them; `last` is the number after the last page
@@ -30,7 +30,7 @@ pub record Writing (keys₀ out₀ counts : List ℕ) (last : ℕ) (keys out : L
   pub size : 64 * first + length (flat_map bytes_of_band done) ≡ 64 * last
   pub out_is : out ≡ take (64 * first) out₀ ++ (flat_map bytes_of_band done ++ drop (64 * last) out₀)
 
-pub writing_start : (keys out : List ℕ) (plan : Plan) → ImageRoom keys out plan → Writing keys out plan.counts (1 + plan.pages) keys out (1 + plan.pages) (length keys) 8
+pub writing_start : (keys out : List ℕ) (plan : Plan) → ImageRoom keys out plan → Writing keys out (numbers_of plan.bands) (1 + plan.pages) keys out (1 + plan.pages) (length keys) 8
 unfolding flat_map pages_in
 writing_start keys out plan g =
     let all : take (length keys) keys ≡ keys = take_all (length keys) keys (omega arith) in
@@ -91,26 +91,18 @@ module _ (keys₀ out₀ counts : List ℕ) (last : ℕ) (keys out : List ℕ) (
   before_is : before + page_count (band_above (take n keys)) ≡ first
   before_is = omega (arith, count_is, count_within)
 
-  pub band_room : BandRoom (take (n - 0) keys) out (first - get_or counts (2 * (b - 1)) 0)
-  band_room =
-      let z : n - 0 ≡ n = omega arith in
-      rw z (record { listed = s.listed; room = omega (arith, before_is, s.size, s.room, s.same_out) })
+  pub band_room : BandRoom (take n keys) out (first - get_or counts (2 * (b - 1)) 0)
+  band_room = record { listed = s.listed; room = omega (arith, before_is, s.size, s.room, s.same_out) }
 
-  module _ (after out' : List ℕ) (roots : ℕ) (d' : BandDone (take (n - 0) keys) out (first - get_or counts (2 * (b - 1)) 0) after out' roots) where
-    z : n - 0 ≡ n
-    z = omega arith
-
-    d : BandDone (take n keys) out before after out' roots
-    d = rw z at d'
-
+  module _ (after out' : List ℕ) (roots : ℕ) (d : BandDone (take n keys) out (first - get_or counts (2 * (b - 1)) 0) after out' roots) where
     q-length : length (take n keys) ≡ n
     q-length = length-take-le n keys s.within
 
-    first-roots : take roots (after ++ drop (n - 0) keys) ≡ roots_above (take n keys)
-    first-roots = first_ones keys n roots after s.within d'.memory (omega (arith, d.roots_few, q-length)) d'.lifted
+    first-roots : take roots (after ++ drop n keys) ≡ roots_above (take n keys)
+    first-roots = first_ones keys n roots after s.within d.memory (omega (arith, d.roots_few, q-length)) d.lifted
 
-    kept-keys : length (after ++ drop (n - 0) keys) ≡ length keys
-    kept-keys = back_length keys n roots after s.within d'.memory (omega (arith, d.roots_few, q-length)) d'.lifted
+    kept-keys : length (after ++ drop n keys) ≡ length keys
+    kept-keys = back_length keys n roots after s.within d.memory (omega (arith, d.roots_few, q-length)) d.lifted
 
     -- the bytes of the band and those of the bands after it
     bytes-length : 64 * before + length (bytes_of_band (band_above (take n keys))) ≡ 64 * first
@@ -136,7 +128,7 @@ module _ (keys₀ out₀ counts : List ℕ) (last : ℕ) (keys out : List ℕ) (
     unfolding flat_map
     new_size = omega (arith, length-append (bytes_of_band (band_above (take n keys))) (flat_map bytes_of_band s.done), bytes-length, s.size)
 
-    pub writing_next : Writing keys₀ out₀ counts last (after ++ drop (n - 0) keys) out' (first - get_or counts (2 * (b - 1)) 0) roots (b - 1)
+    pub writing_next : Writing keys₀ out₀ counts last (after ++ drop n keys) out' (first - get_or counts (2 * (b - 1)) 0) roots (b - 1)
     writing_next =
         record {
           counts_are = s.counts_are;

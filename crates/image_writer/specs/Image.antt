@@ -1,12 +1,18 @@
 -- The image's parts as the writer fills them in.
 -- Assumes nothing.
 use Rattle.std.specs.Prelude.{◌≡◌, ℕ, ◌+◌, ◌*◌, ◌≤◌, length, take, drop}
-use mathlib.Core.List.{List, ◌++◌, map, flat_map}
+use mathlib.Core.List.{List, [], ◌∷◌, ◌++◌, map, flat_map}
 use Rattle.format.specs.Seq.{total}
 use Rattle.format.specs.Writer.{bands_of, band_bytes, band_counts, pages_of}
+use Rattle.packing.specs.declared.BandCounts.{BandCounts}
 use Rattle.packing.specs.Run.{Prefixes, band_above, roots_above}
 use Rattle.packing.specs.Memory.{Free}
 use Rattle.image_writer.specs.declared.Plan.{Plan}
+
+-- the counts of bands as the header has them: the page count and the root count of each
+unfoldable pub numbers_of : List BandCounts → List ℕ
+numbers_of [] = []
+numbers_of (band ∷ bands) = band.pages ∷ band.roots ∷ numbers_of bands
 
 -- the page count and the root count of each band, and the pages of all
 unfoldable pub counts_of : List ℕ → List ℕ
@@ -16,7 +22,7 @@ unfoldable pub pages_in : List ℕ → ℕ
 pages_in keys = total (map (λ band. length (pages_of band)) (bands_of keys))
 
 pub record Planned (keys : List ℕ) (plan : Plan) : Type 0 where
-  pub counts_are : plan.counts ≡ counts_of keys
+  pub counts_are : numbers_of plan.bands ≡ counts_of keys
   pub pages_are : plan.pages ≡ pages_in keys
   pub few : plan.pages ≤ 384
 

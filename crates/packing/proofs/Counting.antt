@@ -47,6 +47,13 @@ pub joined_full : (p : Packing) (size : ℕ) → 240 < p.used + size → joined 
 unfolding joined
 joined_full p size h = rw (lt-leb (p.used + size) 240 h)
 
+-- a subtrie more starts at most one page
+pub joined_more : (p : Packing) (size : ℕ) → (joined p size).pages ≤ p.pages + 1
+joined_more p size = elim (dec_le (p.used + size) 240) [
+  | yes h ↦ rw (joined_fits p size h) (omega arith)
+  | no h ↦ rw (joined_full p size (omega arith)) (omega arith)
+]
+
 pub count_start : (q : List ℕ) → Prefixes q → 0 < length q → Counting q (set q 0 (get_or q 0 0 / 16)) (get_or q 0 0) 1 (record { pages = 1; used = 0 }) 4 1
 count_start q p some =
     let first : heads 4 (part 0 1 q) ≡ get_or q 0 0 / 16 ∷ [] = ap (heads 4) (part_single q 0 some) ∙ heads_one (get_or q 0 0) in

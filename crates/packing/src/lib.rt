@@ -24,8 +24,8 @@ struct Packing {
 // The pages and the roots of a band.
 #[derive(Debug, Clone, Copy, PartialEq, Eq)]
 pub struct BandCounts {
-    pub pages: usize,
-    pub roots: usize,
+    pub pages: u16,
+    pub roots: u16,
 }
 
 // 1 for two numbers that differ, else 0.
@@ -105,8 +105,8 @@ pub fn count_band(keys: &mut [u32]) -> BandCounts
     }
     packing = packing.join(size);
     BandCounts {
-        pages: packing.pages,
-        roots,
+        pages: packing.pages as u16,
+        roots: roots as u16,
     }
 }
 

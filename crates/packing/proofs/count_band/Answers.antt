@@ -4,9 +4,9 @@ use mathlib.Core.Path.{refl, sym, ◌∙◌}
 use native.Mathlib.Omega.{arith}
 use lib.ListN.{length}
 use Rattle.std.proofs.lemmas.Bool.{eqb-true, eqb-false}
-use Prim.Native.Nat.{◌<◌}
+use Prim.Native.Nat.{◌+◌, ◌≤◌, ◌<◌}
 use Rattle.copying.proofs.Stores.{put_back}
-use Rattle.packing.proofs.Counting.{count_none, count_start, count_same, count_next, count-done}
+use Rattle.packing.proofs.Counting.{count_none, count_start, count_same, count_next, count-done, joined_more}
 use Rattle.packing.proofs.count_band.Goals as goal
 use Rattle.packing.proofs.count_band.Goals.{then-root-y, else-root-y}
 
@@ -24,6 +24,12 @@ loop-i-preserved c =
       | then-root-y w ↦ rw (w.keys-is, w.root-is, w.roots-is, w.packing-is, w.size-is, w.more_nodes-size.ensures.0) (count_same _ _ _ _ _ _ _ inv.0 more (sym inv.1 ∙ w.if-root-y.true), w.if-root-y.true)
       | else-root-y w ↦ rw (w.keys-is, w.root-is, w.roots-is, w.packing-is, w.size-is, w.join-packing.ensures) (count_next _ _ _ _ _ _ _ inv.0 more (λ e. w.if-root-y.false (inv.1 ∙ e)), refl)
     ]
+
+pub overflow_cast-result : goal.overflow_cast-result
+overflow_cast-result c =
+    let inv = c.loop-i.invariant.0 in
+    let most : c.join-packing-2.result.pages ≤ c.loop-i.packing.pages + 1 = rw c.join-packing-2.ensures (joined_more _ _) in
+    record { fits = omega (arith, most, inv.pages_few, inv.scan.begun, inv.scan.open_some, inv.scan.within, inv.few) }
 
 pub returns : goal.returns
 returns c = count-done _ _ _ _ _ _ _ _ _ (put_back _ 0 _) c.loop-i.invariant.0 (omega (arith, c.loop-i.auto.keys)) c.join-packing-2.ensures
