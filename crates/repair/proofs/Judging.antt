@@ -1,6 +1,6 @@
 -- A page judged, and a band page after page.
 -- Assumes nothing.
-use mathlib.Core.Path.{◌≡◌, refl, sym, ap, ◌∙◌, subst}
+use mathlib.Core.Path.{◌≡◌, refl, sym, ap, ap₂, ◌∙◌, subst}
 use mathlib.Core.Bool.{Bool, true, false, cond}
 use mathlib.Core.List.{List, [], ◌∷◌}
 use Prim.Native.Nat.{ℕ, suc, ◌+◌, ◌-◌, ◌*◌, ◌≤◌, ◌<◌}
@@ -21,10 +21,9 @@ use Rattle.format.proofs.NodeQuestions.{NodesOk, nodes_of_lem, of_nodes}
 use Rattle.format.proofs.Read.{pages_within}
 use Rattle.checker.specs.Paged.{BandAt}
 use Rattle.repair.specs.declared.judge.Held.{Held}
-use Rattle.repair.specs.declared.judge.Sums.{Sums}
 use Rattle.repair.specs.Numbers.{all_yes, band_links, band_roots, held_levels, held_links, held_roots, links_before, restored, roots_before, roots_held, row_questions}
 use Rattle.repair.specs.Sound.{Sound, SoundPage, held_nodes, nodes_before}
-use Rattle.repair.specs.Inner.{BandJudged, BandReady, HeadsNoted, OnlyRoots, PageHeld, roots_after}
+use Rattle.repair.specs.Inner.{BandReady, HeadsNoted, OnlyRoots, PageHeld, SoundBand, roots_after}
 use Rattle.repair.proofs.Reading.{b_back, T_back}
 use Rattle.repair.proofs.RootsHeld.{all_yes_lem, false-true, held_is, yes_all}
 use Rattle.repair.proofs.Sums.{sum_next, sum_none}
@@ -58,11 +57,6 @@ after_none ps previous f = go (all_yes (row_questions (roots_held ps) ps previou
     go : (t : Bool) → all_yes (row_questions (roots_held ps) ps previous) ≡ t → cond t (roots_held ps) 0 ≡ 0
     go true e = elim (ℕ_discrete (roots_held ps) 0) [ yes z ↦ z | no z ↦ absurd (f (yes_all (row_questions (roots_held ps) ps previous) e) (omega arith)) ]
     go false e = refl
-
-pub none_page : (ps : List ℕ) (previous : ℕ) → roots_after ps previous ≡ 0 → (h : Held) → h ≡ record { roots = 0; nodes = 0; links = 0 } → PageHeld ps previous h
-none_page ps previous z h e =
-    rw e
-    (record { roots_are = sym z; nodes_are = λ k. absurd (omega arith); links_are = λ k. absurd (omega arith); few_roots = omega arith; few_nodes = omega arith; few_links = omega arith })
 
 module _ (ps : List ℕ) (size : length ps ≡ 240) (previous r : ℕ) (o : OnlyRoots ps r) where
   -- with no other number of roots, so with none
@@ -113,9 +107,10 @@ module _ (ps : List ℕ) (size : length ps ≡ 240) (previous r : ℕ) (o : Only
           let e : roots_held ps ≡ r = held_is ps size r ok in
           let y : All Yes (row_questions r ps previous) = all_append Yes (node_questions r ps) ((12, no_room previous (levels_in 4 r ps)) ∷ []) found_yes (full, tt) in
           record {
+            some = some;
             roots_are = sym (after_yes ps previous (all_yes_lem (row_questions (roots_held ps) ps previous) (rw e y)) ∙ e);
-            nodes_are = λ k. is ∙ ap (λ (q : ℕ). node_count q (levels_in 4 q ps)) (sym e);
-            links_are = λ k. (let l : all - (end - r) ≡ on_bits (get_or (levels_in 4 r ps) 3 []) = omega (arith, f.balance, f.count) in l) ∙ ap (λ (q : ℕ). on_bits (get_or (levels_in 4 q ps) 3 [])) (sym e);
+            nodes_are = is ∙ ap (λ (q : ℕ). node_count q (levels_in 4 q ps)) (sym e);
+            links_are = (let l : all - (end - r) ≡ on_bits (get_or (levels_in 4 r ps) 3 []) = omega (arith, f.balance, f.count) in l) ∙ ap (λ (q : ℕ). on_bits (get_or (levels_in 4 q ps) 3 [])) (sym e);
             few_roots = o.few;
             few_nodes = fits;
             few_links = omega arith;
@@ -215,87 +210,80 @@ module _ {img : List ℕ} {b first pages i roots links nodes per : ℕ} {ts bs :
           b_noted = put_next bs links 2 m B-here u.noted.b_noted;
         }
 
+    -- a sound image's page has roots
+    pub judging_none : roots_after (pairs_at img (64 * (first + i))) nodes ≡ 0 → Sound img → ⊥
+    unfolding page_pairs held_roots
+    judging_none z s =
+        let y = s.page b i u.at.lo u.at.hi inner in
+        let some = (nodes_of_lem _ (page_pairs img b i) (nodes_yes (roots_held (page_pairs img b i)) (page_pairs img b i) (nodes_before img b i) y)).some_roots in
+        let none : roots_after (page_pairs img b i) (nodes_before img b i) ≡ 0 = ap₂ (λ (p n : ℕ). roots_after (pairs_at img (64 * p)) n) (sym number_is) (sym u.nodes_are) ∙ z in
+        omega (arith, none, some, after_yes (page_pairs img b i) (nodes_before img b i) (all_yes_lem (row_questions (roots_held (page_pairs img b i)) (page_pairs img b i) (nodes_before img b i)) y))
+
     module _ (held : Held) (is : PageHeld (pairs_at img (64 * (first + i))) nodes held) where
       here : PageHeld (page_pairs img b i) (nodes_before img b i) held
       unfolding page_pairs
       here = subst (λ (n : ℕ). PageHeld (page_pairs img b i) n held) u.nodes_are (subst (λ (p : ℕ). PageHeld (pairs_at img (64 * p)) nodes held) number_is is)
 
-      -- no page of a sound image
-      pub judging_none : held.roots ≡ 0 → Sound img → ⊥
+      sound-here : SoundPage img b i
       unfolding held_roots
-      judging_none z s =
-          let y = s.page b i u.at.lo u.at.hi inner in
-          let some = (nodes_of_lem _ (page_pairs img b i) (nodes_yes (roots_held (page_pairs img b i)) (page_pairs img b i) (nodes_before img b i) y)).some_roots in
-          omega (arith, here.roots_are, some, after_yes (page_pairs img b i) (nodes_before img b i) (all_yes_lem (row_questions (roots_held (page_pairs img b i)) (page_pairs img b i) (nodes_before img b i)) y))
+      sound-here = after_some (page_pairs img b i) (nodes_before img b i) (omega (arith, here.roots_are, here.some))
 
-      module _ (nonzero : held.roots ≡ 0 → ⊥) where
-        sound-here : SoundPage img b i
-        unfolding held_roots
-        sound-here = after_some (page_pairs img b i) (nodes_before img b i) (omega (arith, here.roots_are))
+      roots-here : held.roots ≡ held_roots img b i
+      unfolding held_roots
+      roots-here = here.roots_are ∙ after_yes (page_pairs img b i) (nodes_before img b i) (all_yes_lem (row_questions (roots_held (page_pairs img b i)) (page_pairs img b i) (nodes_before img b i)) sound-here)
 
-        roots-here : held.roots ≡ held_roots img b i
-        unfolding held_roots
-        roots-here = here.roots_are ∙ after_yes (page_pairs img b i) (nodes_before img b i) (all_yes_lem (row_questions (roots_held (page_pairs img b i)) (page_pairs img b i) (nodes_before img b i)) sound-here)
+      links-here : held.links ≡ held_links img b i
+      unfolding held_links held_levels held_roots
+      links-here = here.links_are
 
-        links-here : held.links ≡ held_links img b i
-        unfolding held_links held_levels held_roots
-        links-here = here.links_are (omega arith)
+      nodes-here : held.nodes ≡ held_nodes img b i
+      unfolding held_nodes held_levels held_roots
+      nodes-here = here.nodes_are
 
-        nodes-here : held.nodes ≡ held_nodes img b i
-        unfolding held_nodes held_levels held_roots
-        nodes-here = here.nodes_are (omega arith)
+      roots-after : roots + held.roots ≡ roots_before img b (suc i)
+      unfolding roots_before
+      roots-after = omega (arith, u.roots_are, sum_next (held_roots img b) i, roots-here)
 
-        roots-after : roots + held.roots ≡ roots_before img b (suc i)
-        unfolding roots_before
-        roots-after = omega (arith, u.roots_are, sum_next (held_roots img b) i, roots-here)
+      links-after : links + held.links ≡ links_before img b (suc i)
+      unfolding links_before
+      links-after = omega (arith, u.links_are, sum_next (held_links img b) i, links-here)
 
-        links-after : links + held.links ≡ links_before img b (suc i)
-        unfolding links_before
-        links-after = omega (arith, u.links_are, sum_next (held_links img b) i, links-here)
+      -- nor has one so many out-links
+      pub judging_many : 4096 < links + held.links → Sound img → ⊥
+      judging_many k s = omega (arith, links-after, links_small img u.small s b (suc i) u.at.lo u.at.hi inner)
 
-        -- nor has one so many out-links
-        pub judging_many : 4096 < links + held.links → Sound img → ⊥
-        judging_many k s = omega (arith, links-after, links_small img u.small s b (suc i) u.at.lo u.at.hi inner)
+      pub judging_next : links + held.links ≤ 4096 → (x y : ℕ) → x ≡ roots → y ≡ links
+          → Judging img b first pages (i + 1) (roots + held.roots) (links + held.links) held.nodes held.roots (set ts (first + i - 1) x) (set bs (first + i - 1) y)
+      judging_next k x y ex ey =
+          let next : first + i + 1 ≡ first + suc i = omega arith in
+          rw (ex, ey, add-one i)
+          record {
+            small = u.small;
+            at = u.at;
+            pages_are = u.pages_are;
+            few = u.few;
+            room = u.room;
+            within = omega arith;
+            page = λ j l. elim (ℕ_discrete i j) [ yes e ↦ subst (SoundPage img b) e sound-here | no e ↦ u.page j (omega arith) ];
+            roots_are = roots-after;
+            links_are = links-after;
+            nodes_are = nodes-here;
+            roots_few = omega (arith, u.roots_few, is.few_roots);
+            links_few = k;
+            nodes_few = omega (arith, is.few_nodes);
+            per_few = is.few_roots;
+            noted = subst (λ (p : ℕ). HeadsNoted img p (set ts (first + i - 1) roots) (set bs (first + i - 1) links)) next noted-next;
+          }
 
-        pub judging_next : links + held.links ≤ 4096 → (x y : ℕ) → x ≡ roots → y ≡ links
-            → Judging img b first pages (i + 1) (roots + held.roots) (links + held.links) held.nodes held.roots (set ts (first + i - 1) x) (set bs (first + i - 1) y)
-        judging_next k x y ex ey =
-            let next : first + i + 1 ≡ first + suc i = omega arith in
-            rw (ex, ey, add-one i)
-            record {
-              small = u.small;
-              at = u.at;
-              pages_are = u.pages_are;
-              few = u.few;
-              room = u.room;
-              within = omega arith;
-              page = λ j l. elim (ℕ_discrete i j) [ yes e ↦ subst (SoundPage img b) e sound-here | no e ↦ u.page j (omega arith) ];
-              roots_are = roots-after;
-              links_are = links-after;
-              nodes_are = nodes-here;
-              roots_few = omega (arith, u.roots_few, is.few_roots);
-              links_few = k;
-              nodes_few = omega (arith, is.few_nodes);
-              per_few = is.few_roots;
-              noted = subst (λ (p : ℕ). HeadsNoted img p (set ts (first + i - 1) roots) (set bs (first + i - 1) links)) next noted-next;
-            }
-
-  pub judging_end : pages ≤ i → (s : Sums) → s ≡ record { fine = true; roots = record { 0 = roots }; links = record { 0 = links } } → BandJudged img b first ts bs s
+  pub judging_end : pages ≤ i → SoundBand img b first ts bs (record { roots = record { 0 = roots }; links = record { 0 = links } })
   unfolding band_roots band_links
-  judging_end h s e =
+  judging_end h =
       let n : i ≡ page_count img b = omega (arith, u.within, u.pages_are) in
-      rw e
-      (record {
-        sound = λ t. record {
-          page = λ j k. u.page j (omega arith);
-          roots_are = u.roots_are ∙ ap (roots_before img b) n;
-          links_are = u.links_are ∙ ap (links_before img b) n;
-          few_roots = omega (arith, u.roots_few, u.few, first_some, u.within);
-          few_links = u.links_few;
-          noted = subst (λ (i : ℕ). HeadsNoted img (first + i) ts bs) n u.noted;
-        };
-        unsound = λ t. absurd (let z : ◌≡◌ {A = ℕ} 0 1 = cc in omega arith);
-      })
-
-pub unsound_band : {img : List ℕ} {b first : ℕ} {ts bs : List ℕ} → (Sound img → ⊥) → (s : Sums) → s ≡ record { fine = false; roots = record { 0 = 0 }; links = record { 0 = 0 } } → BandJudged img b first ts bs s
-unsound_band f s e = rw e (record { sound = λ t. absurd (let z : ◌≡◌ {A = ℕ} 0 1 = cc in omega arith); unsound = λ t. f })
+      record {
+        page = λ j k. u.page j (omega arith);
+        roots_are = u.roots_are ∙ ap (roots_before img b) n;
+        links_are = u.links_are ∙ ap (links_before img b) n;
+        few_roots = omega (arith, u.roots_few, u.few, first_some, u.within);
+        few_links = u.links_few;
+        noted = subst (λ (i : ℕ). HeadsNoted img (first + i) ts bs) n u.noted;
+      }

@@ -104,11 +104,12 @@ module _ {word counts : List ℕ} {low high known end : ℕ} (s : Seek word coun
         let fits : l.end ≤ 240 = omega (arith, ends.few) in
         record {
           only = record { few = omega (arith, s.few); only = λ q y. same (pairs_in word) size q r (nodes_of_lem q (pairs_in word) y) n ends (sym (end-at fits) ∙ e) };
-          third_is = λ h. at.third_is;
-          fourth_is = λ h. at.fourth_is;
-          end_is = λ h. at.end_is fits;
-          fits = λ h. fits;
-          zeros = λ h. zeros_from (pairs_in word) l.end size (λ j from to. ends.zeros j (omega arith) to);
+          some = omega (arith, s.some);
+          third_is = at.third_is;
+          fourth_is = at.fourth_is;
+          end_is = at.end_is fits;
+          fits = fits;
+          zeros = zeros_from (pairs_in word) l.end size (λ j from to. ends.zeros j (omega arith) to);
         }
 
     -- before that

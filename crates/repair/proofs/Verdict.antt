@@ -17,7 +17,7 @@ use Rattle.format.proofs.Read.{pages_within}
 use Rattle.repair.specs.declared.judge.Sums.{Sums}
 use Rattle.repair.specs.Numbers.{band_links, band_roots, header_number, restored}
 use Rattle.repair.specs.Sound.{Sound, SoundPage, header_kept, one_root}
-use Rattle.repair.specs.Inner.{BandJudged, BandReady, CountsNoted, HeadsNoted, Judged, SoundBand}
+use Rattle.repair.specs.Inner.{BandReady, CountsNoted, HeadsNoted, Judged, SoundBand}
 use Rattle.repair.proofs.Reading.{header_back}
 use Rattle.repair.proofs.Given.{cut}
 use Rattle.repair.proofs.Restoring.{kept_size, sound_repairable}
@@ -93,10 +93,7 @@ module _ {img : List ℕ} {passed first due : ℕ} {counts ts bs : List ℕ} (u 
           | no z ↦ ap (band_roots img) (add-one passed) ∙ sym (s.link passed (omega arith) (omega arith)) ∙ sym (u.due_is (omega arith))
         ]
 
-    module _ {ts' bs' : List ℕ} (s : Sums) (judged : BandJudged img (passed + 1) first ts' bs' s) (fine : s.fine ≡ true) where
-      band : SoundBand img (passed + 1) first ts' bs' s
-      band = judged.sound fine
-
+    module _ {ts' bs' : List ℕ} (s : Sums) (band : SoundBand img (passed + 1) first ts' bs' s) where
       pub roots_few : s.roots.0 ≤ 65535
       roots_few = omega (arith, band.few_roots)
 

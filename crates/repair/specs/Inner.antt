@@ -1,6 +1,6 @@
 -- What the inner functions of the repair find and fill.
 -- Assumes nothing.
-use Rattle.std.specs.Prelude.{◌≡◌, Bool, true, false, cond, not, List, [], map, ℕ, ◌+◌, ◌-◌, ◌*◌, ◌/◌, ◌%◌, ◌^◌, ◌≤◌, ◌<◌, eqb, length, get_or, drop}
+use Rattle.std.specs.Prelude.{◌≡◌, Bool, true, cond, not, List, [], map, ℕ, ◌+◌, ◌-◌, ◌*◌, ◌/◌, ◌%◌, ◌^◌, ◌≤◌, ◌<◌, eqb, length, get_or, drop}
 use Rattle.format.specs.Seq.{All, every, select}
 use Rattle.format.specs.Trie.{on_bits}
 use Rattle.format.specs.Page.{levels_in, node_count, number_at}
@@ -14,7 +14,7 @@ use Rattle.repair.specs.declared.judge.Held.{Held}
 use Rattle.repair.specs.declared.judge.Sums.{Sums}
 use Rattle.repair.specs.Numbers.{all_yes, band_links, band_roots, put_numbers, restored, roots_held, row_questions}
 use Rattle.repair.specs.Repair.{is_repairable}
-use Rattle.repair.specs.Sound.{Sound, SoundPage}
+use Rattle.repair.specs.Sound.{SoundPage}
 
 -- ---- a page
 
@@ -48,20 +48,22 @@ pub record LevelsOf (word counts : List ℕ) (r : ℕ) (l : Levels) : Type 0 whe
 -- the only number of roots of a page, where its levels start, and where its nodes end: 11 gets a yes with it
 pub record FoundRoots (word counts : List ℕ) (f : Found) : Type 0 where
   pub only : OnlyRoots (pairs_in word) f.roots
-  pub third_is : 1 ≤ f.roots → f.third ≡ third_in word counts f.roots
-  pub fourth_is : 1 ≤ f.roots → f.fourth ≡ fourth_in word counts f.roots
-  pub end_is : 1 ≤ f.roots → f.end ≡ node_count f.roots (levels_in 4 f.roots (pairs_in word))
-  pub fits : 1 ≤ f.roots → f.end ≤ 240
-  pub zeros : 1 ≤ f.roots → every is_zero (drop f.end (pairs_in word)) ≡ true
+  pub some : 1 ≤ f.roots
+  pub third_is : f.third ≡ third_in word counts f.roots
+  pub fourth_is : f.fourth ≡ fourth_in word counts f.roots
+  pub end_is : f.end ≡ node_count f.roots (levels_in 4 f.roots (pairs_in word))
+  pub fits : f.end ≤ 240
+  pub zeros : every is_zero (drop f.end (pairs_in word)) ≡ true
 
 -- the roots held in a page, where 9 to 12 get a yes with them; else 0
 unfoldable pub roots_after : List ℕ → ℕ → ℕ
 roots_after pairs previous = cond (all_yes (row_questions (roots_held pairs) pairs previous)) (roots_held pairs) 0
 
 pub record PageHeld (pairs : List ℕ) (previous : ℕ) (h : Held) : Type 0 where
+  pub some : 1 ≤ h.roots
   pub roots_are : h.roots ≡ roots_after pairs previous
-  pub nodes_are : 1 ≤ h.roots → h.nodes ≡ node_count (roots_held pairs) (levels_in 4 (roots_held pairs) pairs)
-  pub links_are : 1 ≤ h.roots → h.links ≡ on_bits (get_or (levels_in 4 (roots_held pairs) pairs) 3 [])
+  pub nodes_are : h.nodes ≡ node_count (roots_held pairs) (levels_in 4 (roots_held pairs) pairs)
+  pub links_are : h.links ≡ on_bits (get_or (levels_in 4 (roots_held pairs) pairs) 3 [])
   pub few_roots : h.roots ≤ 60
   pub few_nodes : h.nodes ≤ 240
   pub few_links : h.links ≤ 65535
@@ -89,11 +91,6 @@ pub record SoundBand (img : List ℕ) (b first : ℕ) (ts bs : List ℕ) (s : Su
   pub few_roots : s.roots.0 ≤ 23040
   pub few_links : s.links.0 ≤ 4096
   pub noted : HeadsNoted img (first + page_count img b) ts bs
-
--- so, or a no that no sound image gets
-pub record BandJudged (img : List ℕ) (b first : ℕ) (ts bs : List ℕ) (s : Sums) : Type 0 where
-  pub sound : s.fine ≡ true → SoundBand img b first ts bs s
-  pub unsound : s.fine ≡ false → Sound img → ⊥
 
 -- the header's numbers are noted, and every number of the restored image
 abbrev pub CountsNoted : List ℕ → List ℕ → Type 0

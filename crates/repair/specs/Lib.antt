@@ -6,8 +6,6 @@ pub mod Kept
 pub mod Numbers
 -- the questions and the job
 pub mod Repair
--- the answer in the papers' terms
-pub mod Outcomes
 -- the statement of what a repair gives, and that there is only one such image
 pub mod Laws
 -- for the job's inner functions: when 37 gets a yes, a page's roots, and what the arrays hold

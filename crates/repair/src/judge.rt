@@ -1,17 +1,17 @@
 // Whether an accepted image agrees in the kept bytes, and the numbers of that image: one pass over the pages.
-ghost use Rattle.std.specs.Prelude.{◌≡◌, true, false, ◌+◌, ◌≤◌, length, replicate};
+ghost use Rattle.std.specs.Prelude.{◌≡◌, MatchOption, ◌+◌, ◌≤◌, length, replicate};
 ghost use Rattle.format.specs.Page.{pairs_at};
 ghost use Rattle.repair.specs.Repair.{is_repairable};
-ghost use Rattle.repair.specs.Sound.{header_kept};
-ghost use Rattle.repair.specs.Inner.{PageHeld, BandReady, BandJudged, Judged};
+ghost use Rattle.repair.specs.Sound.{Sound, header_kept};
+ghost use Rattle.repair.specs.Inner.{PageHeld, BandReady, SoundBand, Judged, roots_after};
 
 use crate::roots::only_roots;
 use checker::needed::page_needed;
 use format::{OutLink, Root, cross};
 use header::{lift_right, mark_right, page_count, total_pages, version_known, zeros_right};
 
-// What is held in a page: its roots, 0 where 9 to 12 refuse every number of them, its nodes and its out-links.
-#[derive(Clone, Copy)]
+// What is held in a page that 9 to 12 give a yes with some number of roots: that number, its nodes and its out-links.
+#[derive(Clone, Copy, Debug, PartialEq, Eq)]
 pub struct Held {
     pub roots: usize,
     pub nodes: usize,
@@ -19,64 +19,34 @@ pub struct Held {
 }
 
 // What is held in the page at `at`, after a page of `previous` nodes: 241 in a band's first page. The search for its roots starts from those of that page.
-fn page_held(image: &[u8], at: usize, previous: usize, start: usize) -> Held
+fn page_held(image: &[u8], at: usize, previous: usize, start: usize) -> Option<Held>
     requires { (at + 64 ≤ length image.now) × (previous ≤ 241) × (start ≤ 60) }
-    ensures { PageHeld (pairs_at image.now at) previous result }
+    ensures { MatchOption result (roots_after (pairs_at image.now at) previous ≡ 0) (PageHeld (pairs_at image.now at) previous) }
 {
     let words = nodes::gather(image, at);
-    let found = only_roots(&words.word, &words.before, start, previous);
-    if found.roots == 0 {
-        return none_held();
-    }
+    let found = only_roots(&words, start, previous)?;
+    let roots = found.roots;
     let end = found.end;
-    if !nodes::none_empty(&words.word, end) {
-        return none_held();
+    if !words.none_empty(end) {
+        return None;
     }
-    if !page_needed(
-        &words.word,
-        &words.before,
-        found.roots,
-        found.third,
-        found.fourth,
-        previous,
-    ) {
-        return none_held();
+    if !page_needed(&words, roots, found.third, found.fourth, previous) {
+        return None;
     }
     // Every on bit leads to a node of the page that is no root, but for the out-links.
-    let links = nodes::on_bits(&words.before) - (end - found.roots);
-    Held {
-        roots: found.roots,
+    let links = words.on_bits() - (end - roots);
+    Some(Held {
+        roots,
         nodes: end,
         links,
-    }
+    })
 }
 
-fn none_held() -> Held
-    ensures { result ≡ record { roots = 0; nodes = 0; links = 0 } }
-{
-    Held {
-        roots: 0,
-        nodes: 0,
-        links: 0,
-    }
-}
-
-// What is held in a band: whether its pages are, and then the root after its last and the out-link after its last.
-#[derive(Clone, Copy)]
+// What is held in a band: the root after its last and the out-link after its last.
+#[derive(Clone, Copy, Debug, PartialEq, Eq)]
 pub struct Sums {
-    pub fine: bool,
     pub roots: Root,
     pub links: OutLink,
-}
-
-fn unsound() -> Sums
-    ensures { result ≡ record { fine = false; roots = record { 0 = 0 }; links = record { 0 = 0 } } }
-{
-    Sums {
-        fine: false,
-        roots: Root(0),
-        links: OutLink(0),
-    }
 }
 
 // A number of at most 16 bits.
@@ -95,38 +65,28 @@ fn judge_band(
     first: usize,
     t: &mut [u16; 384],
     b: &mut [u16; 384],
-) -> Sums
+) -> Option<Sums>
     requires { BandReady image.now band first t.old b.old }
-    ensures { BandJudged image.now band first t.new b.new result }
+    ensures { MatchOption result (Sound image.now → ⊥) (SoundBand image.now band first t.new b.new) }
 {
-    let pages = page_count(image, band);
     let mut roots = Root(0);
     let mut links = OutLink(0);
     let mut nodes = 241;
     let mut per_page = 60;
-    let mut i = 0;
-    while i < pages {
+    for i in 0..page_count(image, band) {
         let before = first + i - 1;
-        let held = page_held(image, 64 * (first + i), nodes, per_page);
-        if held.roots == 0 {
-            return unsound();
-        }
+        let held = page_held(image, 64 * (first + i), nodes, per_page)?;
         t[before] = narrow(roots.0);
         b[before] = narrow(links.0);
         roots = Root(roots.0 + held.roots);
         links = OutLink(links.0 + held.links);
         if 4096 < links.0 {
-            return unsound();
+            return None;
         }
         nodes = held.nodes;
         per_page = held.roots;
-        i += 1;
     }
-    Sums {
-        fine: true,
-        roots,
-        links,
-    }
+    Some(Sums { roots, links })
 }
 
 // Whether 1, 2, 3, 5, 35 and 6, which ask of kept bytes alone, get a yes.
@@ -174,21 +134,17 @@ pub(crate) fn judge(
     }
     let mut due = Root(1);
     let mut first = 1;
-    let mut passed = 0;
-    while passed < 8 {
+    for passed in 0..8 {
         let band = passed + 1;
-        let sums = judge_band(image, band, first, t, b);
-        if !sums.fine {
+        let Some(sums) = judge_band(image, band, first, t, b) else {
+            return false;
+        };
+        if sums.roots.0 != due.0 {
             return false;
         }
-        let roots = sums.roots;
-        if roots.0 != due.0 {
-            return false;
-        }
-        counts[band] = narrow(roots.0);
+        counts[band] = narrow(sums.roots.0);
         due = cross(sums.links);
         first += page_count(image, band);
-        passed = band;
     }
     counts[0] = narrow(due.0);
     true

@@ -7,11 +7,11 @@ use Rattle.repair.proofs.roots.nodes_end.Goals as goal
 pub loop-j-init : goal.loop-j-init
 loop-j-init c = emptied_start _
 
-pub returns-then-word-j-ne0 : goal.returns-then-word-j-ne0
-returns-then-word-j-ne0 c = ends_here c.loop-j.invariant _ c.empty_after.ensures c.if-word-j-ne0.true (omega (arith, c.empty_after.ensures.few, c.loop-j-test.true))
+pub returns-then-words-j-ne0 : goal.returns-then-words-j-ne0
+returns-then-words-j-ne0 c = ends_here c.loop-j.invariant _ c.empty_after.ensures c.if-words-j-ne0.true (omega (arith, c.empty_after.ensures.few, c.loop-j-test.true))
 
 pub loop-j-preserved : goal.loop-j-preserved
-loop-j-preserved c = emptied_next c.loop-j.invariant c.loop-j-test.true c.if-word-j-ne0.false
+loop-j-preserved c = emptied_next c.loop-j.invariant (omega (arith, c.loop-j-test.true)) c.if-words-j-ne0.false
 
 pub returns-then-empty-gt16 : goal.returns-then-empty-gt16
 returns-then-empty-gt16 c = ends_first (emptied_all c.loop-j.invariant (omega (arith, c.loop-j-test.false))) _ c.empty_after-empty.ensures refl c.if-empty-gt16.true
