@@ -4,7 +4,7 @@ use mathlib.Core.Path.{◌≡◌, refl, sym, ap, ap₂, ◌∙◌}
 use mathlib.Core.Bool.{true, false}
 use mathlib.Core.Option.{Option, none, some}
 use mathlib.Core.List.{List, [], ◌∷◌, ◌++◌, append_assoc, append-nil, flat_map, map}
-use Prim.Native.Nat.{ℕ, ◌+◌, ◌*◌, ◌-◌, ◌≤◌, ◌<◌}
+use Prim.Native.Nat.{ℕ, ◌+◌, ◌*◌, ◌≤◌, ◌<◌}
 use native.Mathlib.Omega.{arith}
 use borrow.Author.Tests.{le-leb, lt-leb}
 use lib.ListN.{length, take, drop, length-append, take-append-drop}
@@ -17,14 +17,16 @@ use Rattle.format.proofs.HeaderBytes.{length_counts, length-header}
 use Rattle.format.proofs.Questions.{after_yes, asked_no, asked_yes}
 use Rattle.format.proofs.Jobs.{list_writable}
 use Rattle.format.proofs.Exact.{write-is}
-use Rattle.writer.specs.declared.Written.{Written}
-use Rattle.writer.specs.declared.Written.TheVariants.{Length, Refused}
+use Rattle.std.specs.Prelude.{Result, Ok, Err}
+use Rattle.format.specs.Refusal.{number_of}
+use Rattle.format.specs.declared.refusal.Refusal.{Refusal}
+use Rattle.format.specs.declared.refusal.Refusal.TheVariants.{Lift, More, Order, Room}
 use Rattle.image_writer.specs.declared.Plan.{Plan}
 use Rattle.writer.specs.Outcomes.{WrittenKeys}
 use Rattle.writer.specs.List.{yes_to_35}
 use Rattle.packing.specs.Run.{Prefixes}
-use Rattle.image_writer.specs.Image.{counts_of, pages_in, pages_from, bytes_of_band, bytes_of_bands, Planned, ImageRoom}
-use Rattle.image_writer.specs.Planning.{used_up, FirstPass, KeysPlanned, unordered, passed}
+use Rattle.image_writer.specs.Image.{numbers_of, counts_of, pages_in, pages_from, bytes_of_band, bytes_of_bands, Planned, ImageRoom}
+use Rattle.image_writer.specs.Planning.{used_up, FirstPass}
 use Rattle.image_writer.proofs.Planning.{page_count, bands_up_lem}
 use Rattle.image_writer.proofs.Writing.{length_up, length_band}
 
@@ -72,32 +74,32 @@ image_filled lift keys out out₁ out₂ e₁ e₂ =
 -- ---- the questions
 
 module _ (asked : Question) (lift : ℕ) (keys buffer : List ℕ) where
-  refused-by : (n : ℕ) → first_no (asked ∷ list_questions keys ++ room_question lift keys buffer ∷ []) ≡ some n → WrittenKeys asked lift keys buffer (Refused n) buffer
+  refused-by : (r : Refusal) → first_no (asked ∷ list_questions keys ++ room_question lift keys buffer ∷ []) ≡ some (number_of r) → WrittenKeys asked lift keys buffer (Err r) buffer
   unfolding write_keys buffer_after_write_keys settle
-  refused-by n e =
-      let o : write_keys asked lift keys buffer ≡ refused n = ap (λ (m : Option ℕ). outcome m (length (image_of lift keys))) e ∙ (unfold outcome in refl) in
+  refused-by r e =
+      let o : write_keys asked lift keys buffer ≡ refused (number_of r) = ap (λ (m : Option ℕ). outcome m (length (image_of lift keys))) e ∙ (unfold outcome in refl) in
       record { returned = sym o; bytes = sym (ap (λ (m : Outcome ℕ). filled m (image_of lift keys) buffer) o ∙ (unfold filled in refl)) }
 
   -- 35 gets a no
-  pub no_35 : asked.1 ≡ false → WrittenKeys asked lift keys buffer (Refused asked.0) buffer
-  no_35 e = refused-by asked.0 (asked_no asked.0 asked.1 _ e)
+  pub no_35 : asked.0 ≡ 35 → asked.1 ≡ false → WrittenKeys asked lift keys buffer (Err Lift) buffer
+  no_35 is e = refused-by Lift (asked_no asked.0 asked.1 _ e ∙ ap (λ (n : ℕ). some n) is)
 
 -- 35 gets a yes, however it is asked: the other questions decide
-pub asked_35 : (asked asked' : Question) (lift : ℕ) (keys buffer : List ℕ) (answer : Written) (buffer' : List ℕ) → Yes asked → Yes asked' → WrittenKeys asked lift keys buffer answer buffer' → WrittenKeys asked' lift keys buffer answer buffer'
+pub asked_35 : (asked asked' : Question) (lift : ℕ) (keys buffer : List ℕ) (answer : Result ℕ Refusal) (buffer' : List ℕ) → Yes asked → Yes asked' → WrittenKeys asked lift keys buffer answer buffer' → WrittenKeys asked' lift keys buffer answer buffer'
 unfolding buffer_after_write_keys
 asked_35 asked asked' lift keys buffer answer buffer' e e' w = record { returned = w.returned ∙ o; bytes = w.bytes ∙ ap (λ (m : Outcome ℕ). filled m (image_of lift keys) buffer) o }
   where
     o : write_keys asked lift keys buffer ≡ write_keys asked' lift keys buffer
     o = unfold write_keys settle in ap (λ (m : Option ℕ). outcome m (length (image_of lift keys))) (asked_yes asked.0 asked.1 _ e ∙ sym (asked_yes asked'.0 asked'.1 _ e'))
 
-pub too_many : (lift : ℕ) (keys buffer : List ℕ) → 4096 < length keys → WrittenKeys yes_to_35 lift keys buffer (Refused 14) buffer
-too_many lift keys buffer h = refused-by yes_to_35 lift keys buffer 14 no
+pub too_many : (lift : ℕ) (keys buffer : List ℕ) → 4096 < length keys → WrittenKeys yes_to_35 lift keys buffer (Err More) buffer
+too_many lift keys buffer h = refused-by yes_to_35 lift keys buffer More no
   where
     no : first_no (yes_to_35 ∷ list_questions keys ++ room_question lift keys buffer ∷ []) ≡ some 14
     no = unfold list_questions first_no in rw (lt-leb (length keys) 4096 h) refl
 
-pub not-ascending : (lift : ℕ) (keys buffer : List ℕ) → length keys ≤ 4096 → ascending keys ≡ false → WrittenKeys yes_to_35 lift keys buffer (Refused 15) buffer
-not-ascending lift keys buffer few e = refused-by yes_to_35 lift keys buffer 15 no
+pub not-ascending : (lift : ℕ) (keys buffer : List ℕ) → length keys ≤ 4096 → ascending keys ≡ false → WrittenKeys yes_to_35 lift keys buffer (Err Order) buffer
+not-ascending lift keys buffer few e = refused-by yes_to_35 lift keys buffer Order no
   where
     no : first_no (yes_to_35 ∷ list_questions keys ++ room_question lift keys buffer ∷ []) ≡ some 15
     no = unfold list_questions first_no in rw (le-leb (length keys) 4096 few, e) refl
@@ -107,14 +109,14 @@ module _ (lift : ℕ) (keys buffer : List ℕ) (listed : Prefixes keys) where
   yes_all : first_no (list_questions keys) ≡ none
   yes_all = list_writable keys listed.few listed.ordered
 
-  no_room : length buffer < 64 + 64 * pages_in keys → WrittenKeys yes_to_35 lift keys buffer (Refused 17) buffer
-  no_room h = refused-by yes_to_35 lift keys buffer 17 (asked_yes 35 true _ refl ∙ after_yes (list_questions keys) (room_question lift keys buffer ∷ []) yes_all ∙ no)
+  no_room : length buffer < 64 + 64 * pages_in keys → WrittenKeys yes_to_35 lift keys buffer (Err Room) buffer
+  no_room h = refused-by yes_to_35 lift keys buffer Room (asked_yes 35 true _ refl ∙ after_yes (list_questions keys) (room_question lift keys buffer ∷ []) yes_all ∙ no)
     where
       no : first_no (room_question lift keys buffer ∷ []) ≡ some 17
       no = unfold room_question first_no in rw (lt-leb (length (image_of lift keys)) (length buffer) (omega (arith, image_length lift keys))) refl
 
   written : (out₁ out₂ : List ℕ) → 64 + 64 * pages_in keys ≤ length buffer → out₁ ≡ header lift (length keys) (counts_of keys) ++ drop 64 buffer → out₂ ≡ pages_from out₁ 1 (bytes_of_bands keys)
-      → WrittenKeys yes_to_35 lift keys buffer (Length (64 + 64 * pages_in keys)) out₂
+      → WrittenKeys yes_to_35 lift keys buffer (Ok (64 + 64 * pages_in keys)) out₂
   unfolding buffer_after_write_keys
   written out₁ out₂ h e₁ e₂ =
       let o : write_keys yes_to_35 lift keys buffer ≡ returns (length (image_of lift keys)) =
@@ -127,41 +129,45 @@ module _ (lift : ℕ) (keys buffer : List ℕ) (listed : Prefixes keys) where
 -- ---- by a plan
 
 module _ (keys buffer : List ℕ) (plan : Plan) (g : Prefixes keys × Planned keys plan) where
-  pub plan_no_room : length buffer < 64 + 64 * plan.pages → WrittenKeys yes_to_35 plan.lift keys buffer (Refused 17) buffer
+  pub plan_no_room : length buffer < 64 + 64 * plan.pages → WrittenKeys yes_to_35 plan.lift keys buffer (Err Room) buffer
   plan_no_room h = no_room plan.lift keys buffer g.0 (rw (← g.1.pages_are) h)
 
   module _ (room : 64 + 64 * plan.pages ≤ length buffer) (out₁ : List ℕ) where
     pub plan_room : length out₁ ≡ length buffer → ImageRoom keys out₁ plan
     plan_room same = record { listed = g.0; planned = g.1; room = omega arith }
 
-    pub plan_written : (out₂ : List ℕ) → out₁ ≡ header plan.lift (length keys) plan.counts ++ drop 64 buffer → out₂ ≡ pages_from out₁ 1 (bytes_of_bands keys)
-        → WrittenKeys yes_to_35 plan.lift keys buffer (Length (64 + 64 * plan.pages)) out₂
+    pub plan_written : (out₂ : List ℕ) → out₁ ≡ header plan.lift (length keys) (numbers_of plan.bands) ++ drop 64 buffer → out₂ ≡ pages_from out₁ 1 (bytes_of_bands keys)
+        → WrittenKeys yes_to_35 plan.lift keys buffer (Ok (64 + 64 * plan.pages)) out₂
     plan_written out₂ e₁ e₂ =
         rw g.1.pages_are (written plan.lift keys buffer g.0 out₁ out₂ (rw g.1.pages_are at room) (e₁ ∙ ap (λ (c : List ℕ). header plan.lift (length keys) c ++ drop 64 buffer) g.1.counts_are) e₂)
 
--- the question that got a no
-pub plan_refused : (lift : ℕ) (keys after buffer : List ℕ) (plan : Plan) → length keys ≤ 4096 → KeysPlanned lift keys after plan → 0 < plan.refusal → WrittenKeys yes_to_35 lift keys buffer (Refused plan.refusal) buffer
-plan_refused lift keys after buffer plan few (unordered e r) h = rw r.refusal_is (not-ascending lift keys buffer few e.0)
-plan_refused lift keys after buffer plan few (passed e p) h = absurd (omega (arith, p.no_refusal))
-
--- a plan for keys, after the first pass
-pub record Accepted (lift : ℕ) (keys after : List ℕ) (plan : Plan) : Type 0 where
-  pub for_keys : Prefixes keys × Planned keys plan
-  pub pass : FirstPass lift keys after plan
-
-pub plan_accepted : (lift : ℕ) (keys after : List ℕ) (plan : Plan) → length keys ≤ 4096 → KeysPlanned lift keys after plan → plan.refusal ≤ 0 → Accepted lift keys after plan
-plan_accepted lift keys after plan few (unordered e r) h = absurd (omega (arith, r.refusal_is))
-plan_accepted lift keys after plan few (passed e p) h = record { for_keys = (record { few = few; ordered = e }, p.planned); pass = p }
-
 -- ---- the keys in their places
 
--- all of them
-pub all_loaded : (keys places m : List ℕ) → length places ≡ length keys → m ≡ keys ++ drop (length keys) places → m ≡ keys
-all_loaded keys places m same e = e ∙ ap (λ (n : ℕ). keys ++ drop n places) (sym same) ∙ ap (keys ++◌) (drop-length places) ∙ append-nil keys
+-- the keys, put in as many places
+module _ (lift : ℕ) (keys places loaded : List ℕ) (same : length places ≡ length keys) (few : length keys ≤ 4096) (is : loaded ≡ keys ++ drop (length keys) places) where
+  loaded_is : loaded ≡ keys
+  loaded_is = is ∙ ap (λ (n : ℕ). keys ++ drop n places) (sym same) ∙ ap (keys ++◌) (drop-length places) ∙ append-nil keys
 
--- those that are used up, put there again
-pub used-loaded : (lift : ℕ) (keys after m : List ℕ) (plan : Plan) (used : ℕ) → used ≡ used_up plan → FirstPass lift keys after plan → m ≡ take (used - 0) keys ++ drop (length (take (used - 0) keys)) after → m ≡ keys
-used-loaded lift keys after m plan used u p e =
-    let z : used - 0 ≡ used_up plan = omega (arith, u) in
-    let l : length (take (used - 0) keys) ≡ used_up plan = ap (λ (n : ℕ). length (take n keys)) z ∙ length-take-le (used_up plan) keys p.used_few in
-    e ∙ ap₂ (λ (n k : ℕ). take n keys ++ drop k after) z l ∙ ap (take (used_up plan) keys ++◌) p.memory.kept ∙ take-append-drop (used_up plan) keys
+  pub loaded_few : length loaded ≤ 4096
+  loaded_few = rw loaded_is few
+
+  -- the plan found question 15 at no
+  pub loaded_refused : (buffer : List ℕ) (r : Refusal) → r ≡ Order → ascending loaded ≡ false → WrittenKeys yes_to_35 lift keys buffer (Err r) buffer
+  loaded_refused buffer r e falls = rw e (not-ascending lift keys buffer few (rw loaded_is at falls))
+
+  module _ (after again : List ℕ) (plan : Plan) (used : ℕ) (planned : (ascending loaded ≡ true) × FirstPass lift loaded after plan) (is-used : used ≡ used_up plan) (back : again ≡ take used keys ++ drop (length (take used keys)) after) where
+    pub used-few : used ≤ length keys
+    used-few = omega (arith, planned.1.used_few, ap length loaded_is)
+
+    -- those that were used up are there again
+    again_is : again ≡ keys
+    again_is =
+        let p : FirstPass lift keys after plan = rw loaded_is at planned.1 in
+        let l : length (take used keys) ≡ used_up plan = length-take-le used keys used-few ∙ is-used in
+        back ∙ ap₂ (λ (n k : ℕ). take n keys ++ drop k after) is-used l ∙ ap (take (used_up plan) keys ++◌) p.memory.kept ∙ take-append-drop (used_up plan) keys
+
+    pub again_room : Prefixes again × Planned again plan
+    again_room = rw (again_is, ← loaded_is) (record { few = loaded_few; ordered = planned.0 }, planned.1.planned)
+
+    pub again_written : (buffer : List ℕ) (answer : Result ℕ Refusal) (buffer' : List ℕ) → WrittenKeys yes_to_35 plan.lift again buffer answer buffer' → WrittenKeys yes_to_35 lift keys buffer answer buffer'
+    again_written buffer answer buffer' w = rw (again_is, planned.1.lift_is) at w

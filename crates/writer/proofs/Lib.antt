@@ -2,8 +2,5 @@
 
 -- the image of a list of keys
 pub mod Job
--- the lent list: woven into keys, and woven again
+-- the lent list, woven into keys
 pub mod Weaving
-pub mod Again
--- walks over memory
-pub mod Local

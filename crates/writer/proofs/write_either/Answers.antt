@@ -9,7 +9,7 @@ use Rattle.writer.proofs.write_either.Goals as goal
 
 pub returns-then-lift-gt999 : goal.returns-then-lift-gt999
 unfolding either_question
-returns-then-lift-gt999 c = no_35 _ _ _ _ (lt-leb c.args.lift 999 (omega arith))
+returns-then-lift-gt999 c = no_35 _ _ _ _ refl (lt-leb c.args.lift 999 (omega arith))
 
 pub returns-then-keys-gt4096 : goal.returns-then-keys-gt4096
 unfolding either_question

@@ -1,42 +1,20 @@
 -- `writer::write_over` meets its contract. Assumes nothing.
-use mathlib.Core.Path.{ap}
-use Prim.Native.Nat.{◌-◌}
 use native.Mathlib.Omega.{arith}
-use lib.ListN.{length, take, drop, length-append, take-append-drop}
-use Rattle.writer.proofs.Job.{all_loaded, used-loaded, plan_refused, plan_accepted}
+use Rattle.std.proofs.lemmas.Result.{err_from_is_err_and}
+use Rattle.writer.proofs.Job.{loaded_refused, again_room, again_written}
 use Rattle.writer.proofs.write_over.Goals as goal
 
-pub returns-then-plan-gt0 : goal.returns-then-plan-gt0
-returns-then-plan-gt0 c =
-    let e = all_loaded c.args.keys.now _ _ c.requires.0 c.load.ensures in (
-      plan_refused _ _ _ _ _ c.requires.1 (rw e at c.plan_keys-plan.ensures) c.if-plan-gt0.true,
-      omega (arith, c.plan_keys-plan.auto.keys, c.load.auto.places),
-    )
-
-pub slice_bounds-load-end : goal.slice_bounds-load-end
-slice_bounds-load-end c =
-    let e = all_loaded c.args.keys.now _ _ c.requires.0 c.load.ensures in
-    let a = plan_accepted _ c.args.keys.now _ _ c.requires.1 (rw e at c.plan_keys-plan.ensures) c.if-plan-gt0.false in
-    omega (arith, c.used_up-used.ensures, a.pass.used_few)
-
-pub load-requires-2 : goal.load-requires-2
-load-requires-2 c =
-    let keys = c.args.keys.now in
-    let k = c.used_up-used.result - 0 in
-    omega (arith, length-append (take k keys) (drop k keys), ap length (take-append-drop k keys), c.plan_keys-plan.auto.keys, c.load.auto.places, c.requires.0)
+pub returns-in_err-plan : goal.returns-in_err-plan
+returns-in_err-plan c =
+    let p = err_from_is_err_and c.from_residual.result c.from_residual.ensures.1 in
+    let no = c.in_err-plan.ensures in
+    rw (p.1, p.2) (loaded_refused _ _ _ _ c.requires.0 c.requires.1 c.load.ensures _ _ no.0 no.1.0, omega (arith, c.load.auto.places, c.plan_keys.auto.keys))
 
 pub fill_image-requires : goal.fill_image-requires
-fill_image-requires c =
-    let keys = c.args.keys.now in
-    let e = all_loaded keys _ _ c.requires.0 c.load.ensures in
-    let a = plan_accepted _ keys _ _ c.requires.1 (rw e at c.plan_keys-plan.ensures) c.if-plan-gt0.false in
-    rw (used-loaded _ keys _ _ _ _ c.used_up-used.ensures a.pass c.load-2.ensures) a.for_keys
+fill_image-requires c = again_room _ _ _ _ c.requires.0 c.requires.1 c.load.ensures _ _ _ _ c.in_ok-plan.ensures c.used_up.ensures c.load-2.ensures
 
 pub returns : goal.returns
-returns c =
-    let keys = c.args.keys.now in
-    let e = all_loaded keys _ _ c.requires.0 c.load.ensures in
-    let a = plan_accepted _ keys _ _ c.requires.1 (rw e at c.plan_keys-plan.ensures) c.if-plan-gt0.false in (
-      rw (used-loaded _ keys _ _ _ _ c.used_up-used.ensures a.pass c.load-2.ensures, a.pass.lift_is) at c.fill_image.ensures.0,
-      omega (arith, c.fill_image.ensures.1, c.load-2.auto.places, c.plan_keys-plan.auto.keys, c.load.auto.places),
-    )
+returns c = (
+  again_written _ _ _ _ c.requires.0 c.requires.1 c.load.ensures _ _ _ _ c.in_ok-plan.ensures c.used_up.ensures c.load-2.ensures _ _ _ c.fill_image.ensures.0,
+  omega (arith, c.fill_image.ensures.1, c.load-2.auto.places, c.plan_keys.auto.keys, c.load.auto.places),
+)

@@ -1,11 +1,9 @@
--- `writer::list::weave_first` meets its contract. The invariant: the first i keys are woven.
+-- `writer::list::weave_first` meets its contract. The invariant: the first i keys are woven, and the rest is as it was.
 use mathlib.Core.Path.{◌≡◌}
-use Prim.Native.Nat.{◌-◌, ◌≤◌}
-use Rattle.writer.proofs.Weaving.{woven_to}
+use mathlib.Core.List.{◌++◌}
+use lib.ListN.{take, drop}
+use Rattle.writer.specs.List.{keys_in}
 use Rattle.writer.proofs.list.weave_first.Given as goal
 
 abbrev pub invariant-loop-i : goal.invariant-loop-i
-invariant-loop-i l = record { reached : l.i ≤ l.end; woven : l.keys ≡ woven_to l.i l.list l.initial.keys }
-
-abbrev pub decreases-loop-i : goal.decreases-loop-i
-decreases-loop-i l = l.end - l.i
+invariant-loop-i l = l.keys ≡ keys_in (take l.i l.list) ++ drop l.i l.initial.keys
