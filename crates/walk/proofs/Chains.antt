@@ -15,6 +15,7 @@ use Rattle.format.specs.Image.{prefixes_at}
 use Rattle.format.proofs.Descent.{is_in-mem, mem_at, node_at_lem}
 use Rattle.format.proofs.Levels.{level_at, level_count, level_valid, next_prefix, next_within}
 use Rattle.pages.specs.Page.{Ready}
+use Rattle.subtries.specs.declared.spot.Spot.{Spot}
 use Rattle.subtries.specs.Spot.{Spots}
 use Rattle.subtries.specs.Subtrie.{as_bit, set_bit, SubtrieRead}
 use Rattle.pages.specs.Prefix.{AtPrefix}
@@ -154,19 +155,19 @@ module _ {img : List ℕ} {b set link x e : ℕ} (s : Walking img b set link x 0
 -- ---- subtries with one out-link alone, one below the other
 
 -- all keys below prefix x of band b are those below `key` of band `number`; nothing is listed yet
-pub record Chain (img : List ℕ) (b x done : ℕ) (keys₀ : List ℕ) (number next key : ℕ) (keys state : List ℕ) : Type 0 where
+pub record Chain (img : List ℕ) (b x done : ℕ) (keys₀ : List ℕ) (number next key : ℕ) (keys : List ℕ) (spots : List Spot) : Type 0 where
   pub opening : Opening img number next key
   pub from : b ≤ number
-  pub spots : Spots img state
+  pub right : Spots img spots
   pub untouched : keys ≡ keys₀
   pub members : members_between img any_key (x * 2 ^ (36 - 4 * b)) ((x + 1) * 2 ^ (36 - 4 * b)) ≡ members_between img any_key (key * 2 ^ (36 - 4 * number)) ((key + 1) * 2 ^ (36 - 4 * number))
   pub room : done + length (members_between img any_key (x * 2 ^ (36 - 4 * b)) ((x + 1) * 2 ^ (36 - 4 * b))) ≤ 4096
 
-pub chain_start : {img : List ℕ} {b x done link : ℕ} {keys state : List ℕ} → Opening img b link x → Spots img state
-    → done + length (members_between img any_key (x * 2 ^ (36 - 4 * b)) ((x + 1) * 2 ^ (36 - 4 * b))) ≤ 4096 → Chain img b x done keys b link x keys state
-chain_start o p r = record { opening = o; from = omega arith; spots = p; untouched = refl; members = refl; room = r }
+pub chain_start : {img : List ℕ} {b x done link : ℕ} {keys : List ℕ} {spots : List Spot} → Opening img b link x → Spots img spots
+    → done + length (members_between img any_key (x * 2 ^ (36 - 4 * b)) ((x + 1) * 2 ^ (36 - 4 * b))) ≤ 4096 → Chain img b x done keys b link x keys spots
+chain_start o p r = record { opening = o; from = omega arith; right = p; untouched = refl; members = refl; room = r }
 
-module _ {img : List ℕ} {b x done : ℕ} {keys₀ : List ℕ} {number next key : ℕ} {keys state : List ℕ} (c : Chain img b x done keys₀ number next key keys state) where
+module _ {img : List ℕ} {b x done : ℕ} {keys₀ : List ℕ} {number next key : ℕ} {keys : List ℕ} {spots : List Spot} (c : Chain img b x done keys₀ number next key keys spots) where
   -- after band 8: a key
   pub chain_end : 8 < number → members_between img any_key (x * 2 ^ (36 - 4 * b)) ((x + 1) * 2 ^ (36 - 4 * b)) ≡ key ∷ []
   chain_end h = let e : number ≡ 9 = omega (arith, c.opening.to) in c.members ∙ members_key c.opening e any_key refl
@@ -194,12 +195,12 @@ module _ {img : List ℕ} {b x done : ℕ} {keys₀ : List ℕ} {number next key
     pub chain_key : {e : ℕ} → FirstOn on e → 16 * key + e < 4294967296
     chain_key o = single_fits chain_walking o
 
-    pub chain_next : {e rest : ℕ} {state' : List ℕ} → FirstOn on e → rest ≡ on - 2 ^ (15 - e) → rest ≡ 0 → Spots img state' → Chain img b x done keys₀ (number + 1) link (16 * key + e) keys state'
+    pub chain_next : {e rest : ℕ} {spots' : List Spot} → FirstOn on e → rest ≡ on - 2 ^ (15 - e) → rest ≡ 0 → Spots img spots' → Chain img b x done keys₀ (number + 1) link (16 * key + e) keys spots'
     chain_next o r z p =
         record {
           opening = opening_single chain_walking o;
           from = omega (arith, c.from);
-          spots = p;
+          right = p;
           untouched = c.untouched;
           members = chain_under ∙ members_single chain_walking o (sym r ∙ z) any_key;
           room = c.room;

@@ -1,53 +1,21 @@
 -- How a block lies to a rectangle, from how its holders and its slots lie to the two ranges.
 -- Assumes nothing.
-use mathlib.Core.Bool.{Bool, true, false, ◌&&◌}
 use mathlib.Core.Logic.{⊎_elim}
-use mathlib.Core.Path.{◌≡◌, refl, sym, ap, ap₂, ◌∙◌}
+use mathlib.Core.Path.{◌≡◌, sym, ap, ap₂, ◌∙◌}
 use Prim.Native.Nat.{ℕ, ◌+◌, ◌-◌, ◌*◌, ◌%◌, ◌^◌, ◌≤◌, ◌<◌}
 use native.Mathlib.Nat.{mod-eq_of_lt, pow-le-pow_right}
-use native.Mathlib.Decide.{dec_le}
 use native.Mathlib.Omega.{arith}
-use borrow.Author.Tests.{le-leb, lt-leb}
-use lib.Dec.{leb}
 use Rattle.format.specs.declared.Rectangle.{Rectangle}
 use Rattle.format.specs.Key.{holder_of, slot_of}
-use Rattle.format.specs.Answer.{contains, inside, is_within}
 use Rattle.format.specs.Cell.{Apart as CellApart, before_holders, after_holders, before_slots, after_slots}
-use Rattle.format.proofs.Lists.{and_both}
-use Rattle.format.proofs.Cells.{after_range, within_range}
 use Rattle.walk.specs.declared.block.Block.{Block}
 use Rattle.walk.specs.declared.block.Place.{Place}
 use Rattle.walk.specs.declared.block.Place.TheVariants.{Apart, Inside, Across}
+use Rattle.walk.specs.contracts.block.PlaceOrd.TheImpl.{cmp-value}
+use Rattle.std.specs.Ordering.{ord_min}
 use Rattle.walk.specs.Block.{BlockOf, RangeRight, PlaceRight}
 use Rattle.walk.proofs.Blocks.{holder_low, holder_high, slot_low, slot_high, holder_end, slot_end}
 use Rattle.walk.proofs.Endings.{power_positive}
-
--- ---- a key
-
-module _ (rectangle : Rectangle) (k : ℕ) where
-  pub no_holder : is_within rectangle.holders (holder_of k) ≡ false → inside rectangle k ≡ false
-  unfolding inside contains
-  no_holder e = rw e
-
-  pub no_slot : is_within rectangle.slots (slot_of k) ≡ false → inside rectangle k ≡ false
-  unfolding inside contains
-  no_slot e = go (is_within rectangle.holders (holder_of k))
-    where
-      go : (b : Bool) → b && is_within rectangle.slots (slot_of k) ≡ false
-      go true = e
-      go false = refl
-
-  pub both_within : is_within rectangle.holders (holder_of k) ≡ true → is_within rectangle.slots (slot_of k) ≡ true → inside rectangle k ≡ true
-  unfolding inside contains
-  both_within a b = and_both a b
-
-  -- the last of the four tests
-  pub last_test : rectangle.holders.low ≤ holder_of k → holder_of k ≤ rectangle.holders.high → rectangle.slots.low ≤ slot_of k → (slot : ℕ) → slot ≡ slot_of k → leb slot rectangle.slots.high ≡ inside rectangle k
-  last_test a b d slot e =
-      elim (dec_le slot rectangle.slots.high) [
-        | yes t ↦ le-leb slot rectangle.slots.high t ∙ sym (both_within (within_range rectangle.holders (holder_of k) a b) (within_range rectangle.slots (slot_of k) d (omega arith)))
-        | no t ↦ lt-leb slot rectangle.slots.high (omega arith) ∙ sym (no_slot (after_range rectangle.slots (slot_of k) (omega arith)))
-      ]
 
 -- ---- a block
 
@@ -93,21 +61,30 @@ module _ {h : ℕ} (le : h ≤ 16) where
     last-slot = ap₂ (λ (m n : ℕ). m + (n - 1)) (mod-eq_of_lt (omega (arith, slot-ends))) one_is ∙ ap (λ (m : ℕ). m * 2 ^ h + (2 ^ h - 1)) o.slot_is ∙ sym (slot_high h block.prefix le short)
 
     module _ (rectangle : Rectangle) where
-      pub apart_by_holder : {p : Place} → RangeRight rectangle.holders (first_of block.holder h) (last_of block.holder h) p → p ≡ Apart → CellApart rectangle (2 * h) block.prefix
-      apart_by_holder {p} r e =
+      apart_by_holder : RangeRight rectangle.holders (first_of block.holder h) (last_of block.holder h) Apart → CellApart rectangle (2 * h) block.prefix
+      apart_by_holder r =
           ⊎_elim (λ (a : last_of block.holder h < rectangle.holders.low). before_holders (omega (arith, last-holder)))
-          (λ (a : rectangle.holders.high < first_of block.holder h). after_holders (omega (arith, first-holder))) (rw e at r)
+          (λ (a : rectangle.holders.high < first_of block.holder h). after_holders (omega (arith, first-holder))) r
 
-      pub apart_by_slot : {p : Place} → RangeRight rectangle.slots (first_of block.slot h) (last_of block.slot h) p → p ≡ Apart → CellApart rectangle (2 * h) block.prefix
-      apart_by_slot {p} r e =
+      apart_by_slot : RangeRight rectangle.slots (first_of block.slot h) (last_of block.slot h) Apart → CellApart rectangle (2 * h) block.prefix
+      apart_by_slot r =
           ⊎_elim (λ (a : last_of block.slot h < rectangle.slots.low). before_slots (omega (arith, last-slot)))
-          (λ (a : rectangle.slots.high < first_of block.slot h). after_slots (omega (arith, first_slot))) (rw e at r)
+          (λ (a : rectangle.slots.high < first_of block.slot h). after_slots (omega (arith, first_slot))) r
 
-      -- all holders are in the range: the slots decide
-      pub by_slot : {p : Place} → RangeRight rectangle.holders (first_of block.holder h) (last_of block.holder h) p → p ≡ Inside → (q : Place)
-          → RangeRight rectangle.slots (first_of block.slot h) (last_of block.slot h) q → PlaceRight rectangle (2 * h) block.prefix q
-      by_slot r e Apart s = apart_by_slot s refl
-      by_slot r e Inside s =
-          let (a, b) = rw e at r in
-          record { from_holder = omega (arith, first-holder); to_holder = omega (arith, last-holder); from_slot = omega (arith, first_slot, s.0); to_slot = omega (arith, last-slot, s.1) }
-      by_slot r e Across s = tt
+      inside-both : RangeRight rectangle.holders (first_of block.holder h) (last_of block.holder h) Inside → RangeRight rectangle.slots (first_of block.slot h) (last_of block.slot h) Inside
+          → PlaceRight rectangle (2 * h) block.prefix Inside
+      inside-both r s =
+          record { from_holder = omega (arith, first-holder, r.0); to_holder = omega (arith, last-holder, r.1); from_slot = omega (arith, first_slot, s.0); to_slot = omega (arith, last-slot, s.1) }
+
+      -- the block lies as its holders or its slots do, whichever lie further out
+      pub further_out : (a b : Place) → RangeRight rectangle.holders (first_of block.holder h) (last_of block.holder h) a → RangeRight rectangle.slots (first_of block.slot h) (last_of block.slot h) b
+          → PlaceRight rectangle (2 * h) block.prefix (ord_min cmp-value.it a b)
+      further_out Apart Apart r s = apart_by_holder r
+      further_out Apart Across r s = apart_by_holder r
+      further_out Apart Inside r s = apart_by_holder r
+      further_out Across Apart r s = apart_by_slot s
+      further_out Across Across r s = tt
+      further_out Across Inside r s = tt
+      further_out Inside Apart r s = apart_by_slot s
+      further_out Inside Across r s = tt
+      further_out Inside Inside r s = inside-both r s

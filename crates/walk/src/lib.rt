@@ -12,16 +12,16 @@ ghost use Rattle.subtries.specs.Spot.{Spots};
 ghost use Rattle.walk.specs.Block.{BlockOf};
 ghost use Rattle.walk.specs.Walk.{FirstOn, Opening, Walking, Listed, any_key, members_between};
 
-use crate::block::{Block, Place, contains, part, place_of};
+use crate::block::{Block, Place};
 use format::{OutLink, Rectangle, cross};
-use subtries::next_subtrie;
+use subtries::{NO_SPOT, Spot, Subtrie, next_subtrie};
 
 // The first on bit of a set of 16, bit 15 for 0.
 fn first_on(set: u32) -> u32
     requires { (0 < set) × (set < 65536) }
     ensures { FirstOn set result }
 {
-    u32::leading_zeros(set) - 16
+    set.leading_zeros() - 16
 }
 
 // A set without its bit for `ending`.
@@ -33,14 +33,14 @@ fn without(set: u32, ending: u32) -> u32
 }
 
 // Writes a key at a place, if the buffer has it. The next place.
+#[tactic(auto, using(crate::proofs::Places::set_past))]
 fn put(keys: &mut [u32], at: usize, key: u32) -> usize
     requires { at < 4096 }
     ensures { (result ≡ at + 1) × (keys.new ≡ set keys.old at key) }
 {
-    if keys.len() <= at {
-        return at + 1;
+    if at < keys.len() {
+        keys[at] = key;
     }
-    keys[at] = key;
     at + 1
 }
 
@@ -49,7 +49,7 @@ fn list_key(rectangle: Rectangle, keys: &mut [u32], at: usize, key: Block) -> us
     requires { (BlockOf key) × (inside rectangle key.prefix ≡ true → at < 4096) }
     ensures { Listed (select (inside rectangle) (key.prefix ∷ [])) keys.old at keys.new result }
 {
-    if contains(rectangle, key) {
+    if key.is_in(rectangle) {
         return put(keys, at, key.prefix);
     }
     at
@@ -60,28 +60,25 @@ fn list_key(rectangle: Rectangle, keys: &mut [u32], at: usize, key: Block) -> us
 fn open_inside(
     image: &[u8],
     keys: &mut [u32],
-    state: &mut [usize; 64],
+    spots: &mut [Spot; 8],
     done: usize,
     band: usize,
     link: OutLink,
     prefix: u32,
 ) -> usize
-    requires { (Opening image.now band link.0 prefix) × (Spots image.now state.old) × (done + length (members_between image.now any_key (prefix * 2 ^ (36 - 4 * band)) ((prefix + 1) * 2 ^ (36 - 4 * band))) ≤ 4096) }
-    ensures { (Listed (members_between image.now any_key (prefix * 2 ^ (36 - 4 * band)) ((prefix + 1) * 2 ^ (36 - 4 * band))) keys.old done keys.new result) × (Spots image.now state.new) }
+    requires { (Opening image.now band link.0 prefix) × (Spots image.now spots.old) × (done + length (members_between image.now any_key (prefix * 2 ^ (36 - 4 * band)) ((prefix + 1) * 2 ^ (36 - 4 * band))) ≤ 4096) }
+    ensures { (Listed (members_between image.now any_key (prefix * 2 ^ (36 - 4 * band)) ((prefix + 1) * 2 ^ (36 - 4 * band))) keys.old done keys.new result) × (Spots image.now spots.new) }
 {
-    let mut number = band;
     let mut next = link;
     let mut key = prefix;
-    while number <= 8 {
-        let root = cross(next);
-        let subtrie = next_subtrie(image, state, number, root);
+    for number in band..9 {
+        let subtrie = next_subtrie(image, spots, number, cross(next));
         let ending = first_on(subtrie.set);
-        next = subtrie.link;
         if without(subtrie.set, ending) != 0 {
-            return walk_inside(image, keys, state, done, number, subtrie.set, next, key);
+            return walk_inside(image, keys, spots, done, number, subtrie, key);
         }
+        next = subtrie.link;
         key = 16 * key + ending;
-        number += 1;
     }
     put(keys, done, key)
 }
@@ -91,19 +88,19 @@ fn open_inside(
 fn list_below(
     image: &[u8],
     keys: &mut [u32],
-    state: &mut [usize; 64],
+    spots: &mut [Spot; 8],
     done: usize,
     band: usize,
     link: OutLink,
     prefix: u32,
 ) -> usize
-    requires { (Opening image.now band link.0 prefix) × (Spots image.now state.old) × (done + length (members_between image.now any_key (prefix * 2 ^ (36 - 4 * band)) ((prefix + 1) * 2 ^ (36 - 4 * band))) ≤ 4096) }
-    ensures { (Listed (members_between image.now any_key (prefix * 2 ^ (36 - 4 * band)) ((prefix + 1) * 2 ^ (36 - 4 * band))) keys.old done keys.new result) × (Spots image.now state.new) }
+    requires { (Opening image.now band link.0 prefix) × (Spots image.now spots.old) × (done + length (members_between image.now any_key (prefix * 2 ^ (36 - 4 * band)) ((prefix + 1) * 2 ^ (36 - 4 * band))) ≤ 4096) }
+    ensures { (Listed (members_between image.now any_key (prefix * 2 ^ (36 - 4 * band)) ((prefix + 1) * 2 ^ (36 - 4 * band))) keys.old done keys.new result) × (Spots image.now spots.new) }
 {
     if band == 9 {
         return put(keys, done, prefix);
     }
-    open_inside(image, keys, state, done, band, link, prefix)
+    open_inside(image, keys, spots, done, band, link, prefix)
 }
 
 // Lists the keys below the out-links of a subtrie.
@@ -111,24 +108,23 @@ fn list_below(
 fn walk_inside(
     image: &[u8],
     keys: &mut [u32],
-    state: &mut [usize; 64],
+    spots: &mut [Spot; 8],
     done: usize,
     number: usize,
-    set: u32,
-    link: OutLink,
+    subtrie: Subtrie,
     prefix: u32,
 ) -> usize
-    requires { (Walking image.now number set link.0 prefix 0) × (Spots image.now state.old) × (done + length (members_between image.now any_key ((16 * prefix + 0) * 2 ^ (36 - 4 * (number + 1))) ((16 * prefix + 16) * 2 ^ (36 - 4 * (number + 1)))) ≤ 4096) }
-    ensures { (Listed (members_between image.now any_key ((16 * prefix + 0) * 2 ^ (36 - 4 * (number + 1))) ((16 * prefix + 16) * 2 ^ (36 - 4 * (number + 1)))) keys.old done keys.new result) × (Spots image.now state.new) }
+    requires { (Walking image.now number subtrie.set subtrie.link.0 prefix 0) × (Spots image.now spots.old) × (done + length (members_between image.now any_key ((16 * prefix + 0) * 2 ^ (36 - 4 * (number + 1))) ((16 * prefix + 16) * 2 ^ (36 - 4 * (number + 1)))) ≤ 4096) }
+    ensures { (Listed (members_between image.now any_key ((16 * prefix + 0) * 2 ^ (36 - 4 * (number + 1))) ((16 * prefix + 16) * 2 ^ (36 - 4 * (number + 1)))) keys.old done keys.new result) × (Spots image.now spots.new) }
 {
     let mut n = done;
-    let mut next = link;
-    let mut rest = set;
+    let mut next = subtrie.link;
+    let mut rest = subtrie.set;
     while rest != 0 {
         let ending = first_on(rest);
         rest = without(rest, ending);
         let key = 16 * prefix + ending;
-        n = list_below(image, keys, state, n, number + 1, next, key);
+        n = list_below(image, keys, spots, n, number + 1, next, key);
         next = OutLink(next.0 + 1);
     }
     n
@@ -140,29 +136,17 @@ fn open_band(
     image: &[u8],
     rectangle: Rectangle,
     keys: &mut [u32],
-    state: &mut [usize; 64],
+    spots: &mut [Spot; 8],
     done: usize,
     number: usize,
     link: OutLink,
     block: Block,
 ) -> usize
-    requires { (Opening image.now number link.0 block.prefix) × (number ≤ 8) × (BlockOf block) × (Spots image.now state.old) × (done + length (members_between image.now (inside rectangle) (block.prefix * 2 ^ (36 - 4 * number)) ((block.prefix + 1) * 2 ^ (36 - 4 * number))) ≤ 4096) }
-    ensures { (Listed (members_between image.now (inside rectangle) (block.prefix * 2 ^ (36 - 4 * number)) ((block.prefix + 1) * 2 ^ (36 - 4 * number))) keys.old done keys.new result) × (Spots image.now state.new) }
+    requires { (Opening image.now number link.0 block.prefix) × (number ≤ 8) × (BlockOf block) × (Spots image.now spots.old) × (done + length (members_between image.now (inside rectangle) (block.prefix * 2 ^ (36 - 4 * number)) ((block.prefix + 1) * 2 ^ (36 - 4 * number))) ≤ 4096) }
+    ensures { (Listed (members_between image.now (inside rectangle) (block.prefix * 2 ^ (36 - 4 * number)) ((block.prefix + 1) * 2 ^ (36 - 4 * number))) keys.old done keys.new result) × (Spots image.now spots.new) }
 {
-    let root = cross(link);
-    let subtrie = next_subtrie(image, state, number, root);
-    let next = subtrie.link;
-    walk_subtrie(
-        image,
-        rectangle,
-        keys,
-        state,
-        done,
-        number,
-        subtrie.set,
-        next,
-        block,
-    )
+    let subtrie = next_subtrie(image, spots, number, cross(link));
+    walk_subtrie(image, rectangle, keys, spots, done, number, subtrie, block)
 }
 
 // Lists the members in a block, to which the out-link leads; out of band 8 that is a key.
@@ -171,22 +155,22 @@ fn list_block(
     image: &[u8],
     rectangle: Rectangle,
     keys: &mut [u32],
-    state: &mut [usize; 64],
+    spots: &mut [Spot; 8],
     done: usize,
     number: usize,
     link: OutLink,
     block: Block,
 ) -> usize
-    requires { (Opening image.now number link.0 block.prefix) × (BlockOf block) × (Spots image.now state.old) × (done + length (members_between image.now (inside rectangle) (block.prefix * 2 ^ (36 - 4 * number)) ((block.prefix + 1) * 2 ^ (36 - 4 * number))) ≤ 4096) }
-    ensures { (Listed (members_between image.now (inside rectangle) (block.prefix * 2 ^ (36 - 4 * number)) ((block.prefix + 1) * 2 ^ (36 - 4 * number))) keys.old done keys.new result) × (Spots image.now state.new) }
+    requires { (Opening image.now number link.0 block.prefix) × (BlockOf block) × (Spots image.now spots.old) × (done + length (members_between image.now (inside rectangle) (block.prefix * 2 ^ (36 - 4 * number)) ((block.prefix + 1) * 2 ^ (36 - 4 * number))) ≤ 4096) }
+    ensures { (Listed (members_between image.now (inside rectangle) (block.prefix * 2 ^ (36 - 4 * number)) ((block.prefix + 1) * 2 ^ (36 - 4 * number))) keys.old done keys.new result) × (Spots image.now spots.new) }
 {
     if number == 9 {
         return list_key(rectangle, keys, done, block);
     }
-    match place_of(rectangle, 18 - 2 * number, block) {
+    match block.place_in(rectangle, 18 - 2 * number) {
         Place::Apart => done,
-        Place::Inside => open_inside(image, keys, state, done, number, link, block.prefix),
-        Place::Across => open_band(image, rectangle, keys, state, done, number, link, block),
+        Place::Inside => open_inside(image, keys, spots, done, number, link, block.prefix),
+        Place::Across => open_band(image, rectangle, keys, spots, done, number, link, block),
     }
 }
 
@@ -196,38 +180,26 @@ fn walk_subtrie(
     image: &[u8],
     rectangle: Rectangle,
     keys: &mut [u32],
-    state: &mut [usize; 64],
+    spots: &mut [Spot; 8],
     done: usize,
     number: usize,
-    set: u32,
-    link: OutLink,
+    subtrie: Subtrie,
     block: Block,
 ) -> usize
-    requires { (Walking image.now number set link.0 block.prefix 0) × (BlockOf block) × (Spots image.now state.old) × (done + length (members_between image.now (inside rectangle) ((16 * block.prefix + 0) * 2 ^ (36 - 4 * (number + 1))) ((16 * block.prefix + 16) * 2 ^ (36 - 4 * (number + 1)))) ≤ 4096) }
-    ensures { (Listed (members_between image.now (inside rectangle) ((16 * block.prefix + 0) * 2 ^ (36 - 4 * (number + 1))) ((16 * block.prefix + 16) * 2 ^ (36 - 4 * (number + 1)))) keys.old done keys.new result) × (Spots image.now state.new) }
+    requires { (Walking image.now number subtrie.set subtrie.link.0 block.prefix 0) × (BlockOf block) × (Spots image.now spots.old) × (done + length (members_between image.now (inside rectangle) ((16 * block.prefix + 0) * 2 ^ (36 - 4 * (number + 1))) ((16 * block.prefix + 16) * 2 ^ (36 - 4 * (number + 1)))) ≤ 4096) }
+    ensures { (Listed (members_between image.now (inside rectangle) ((16 * block.prefix + 0) * 2 ^ (36 - 4 * (number + 1))) ((16 * block.prefix + 16) * 2 ^ (36 - 4 * (number + 1)))) keys.old done keys.new result) × (Spots image.now spots.new) }
 {
     let mut n = done;
-    let mut next = link;
-    let mut rest = set;
+    let mut next = subtrie.link;
+    let mut rest = subtrie.set;
     while rest != 0 {
         let ending = first_on(rest);
         rest = without(rest, ending);
-        let below = part(block, ending);
-        n = list_block(image, rectangle, keys, state, n, number + 1, next, below);
+        let below = block.part(ending);
+        n = list_block(image, rectangle, keys, spots, n, number + 1, next, below);
         next = OutLink(next.0 + 1);
     }
     n
-}
-
-// The block of all keys.
-fn all_keys() -> Block
-    ensures { (result.prefix ≡ 0) × (BlockOf result) }
-{
-    Block {
-        prefix: 0,
-        holder: 0,
-        slot: 0,
-    }
 }
 
 // Lists the members of the rectangle, ascending, into the first places of `keys`, as far as it has places. How many there are.
@@ -238,19 +210,11 @@ pub fn list_members(image: &[u8], rectangle: Rectangle, keys: &mut [u32]) -> usi
     if header::key_count(image) == 0 {
         return 0;
     }
-    let mut state = [0usize; 64];
-    match place_of(rectangle, 16, all_keys()) {
-        Place::Inside => open_inside(image, keys, &mut state, 0, 1, OutLink(0), 0),
-        _ => open_band(
-            image,
-            rectangle,
-            keys,
-            &mut state,
-            0,
-            1,
-            OutLink(0),
-            all_keys(),
-        ),
+    let whole = Block::whole();
+    let mut spots = [NO_SPOT; 8];
+    match whole.place_in(rectangle, 16) {
+        Place::Inside => open_inside(image, keys, &mut spots, 0, 1, OutLink(0), 0),
+        _ => open_band(image, rectangle, keys, &mut spots, 0, 1, OutLink(0), whole),
     }
 }
 
@@ -259,7 +223,7 @@ pub fn count_members(image: &[u8], rectangle: Rectangle) -> usize
     requires { Accepted image.now }
     ensures { (result ≡ length (member_keys image.now rectangle)) × (result ≤ 4096) }
 {
-    match place_of(rectangle, 16, all_keys()) {
+    match Block::whole().place_in(rectangle, 16) {
         Place::Inside => header::key_count(image),
         _ => {
             let mut scratch = [0u32; 1];

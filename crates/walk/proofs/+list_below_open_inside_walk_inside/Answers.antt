@@ -2,7 +2,7 @@
 -- subtrie, the opener's with a subtrie of several out-links or a key.
 -- Assumes nothing.
 use mathlib.Core.Path.{refl, ap}
-use Prim.Native.Nat.{◌-◌}
+use Prim.Native.Nat.{◌-◌, ◌≤◌}
 use native.Mathlib.Omega.{arith}
 use Rattle.walk.specs.Walk.{any_key}
 use Rattle.walk.proofs.Endings.{power_positive}
@@ -40,14 +40,14 @@ open_inside-loop-number-init t c = let p = c.requires in chain_start p.0 p.1 p.2
 pub open_inside-next_subtrie-subtrie-requires : goal.open_inside-next_subtrie-subtrie-requires
 open_inside-next_subtrie-subtrie-requires t c =
     let s = c.loop-number.invariant in
-    let h = c.loop-number-test.true in
-    (s.opening.ready, s.opening.from, h, root_there s.opening h (ap (λ x. x.0) c.cross-root.ensures), s.spots)
+    let h : c.loop-number.number ≤ 8 = omega arith in
+    (s.opening.ready, s.opening.from, h, root_there s.opening h (ap (λ x. x.0) c.cross.ensures), s.right)
 
 pub open_inside-first_on-ending-requires : goal.open_inside-first_on-ending-requires
 open_inside-first_on-ending-requires t c =
     let s = c.loop-number.invariant in
-    let h = c.loop-number-test.true in
-    let e = ap (λ x. x.0) c.cross-root.ensures in
+    let h : c.loop-number.number ≤ 8 = omega arith in
+    let e = ap (λ x. x.0) c.cross.ensures in
     (chain_some s h e c.next_subtrie-subtrie.ensures.0, chain_fits s h e c.next_subtrie-subtrie.ensures.0)
 
 pub open_inside-without-requires : goal.open_inside-without-requires
@@ -56,8 +56,8 @@ open_inside-without-requires t c = c.first_on-ending.ensures
 pub open_inside-walk_inside-requires : goal.open_inside-walk_inside-requires
 open_inside-walk_inside-requires t c =
     let s = c.loop-number.invariant in
-    let h = c.loop-number-test.true in
-    let e = ap (λ x. x.0) c.cross-root.ensures in
+    let h : c.loop-number.number ≤ 8 = omega arith in
+    let e = ap (λ x. x.0) c.cross.ensures in
     let p = c.requires in (
       omega (arith, c.decreases, s.from),
       (chain_walking s h e c.next_subtrie-subtrie.ensures.0, c.next_subtrie-subtrie.ensures.1, room_same _ _ _ _ (chain_under s h e c.next_subtrie-subtrie.ensures.0) s.room),
@@ -66,22 +66,22 @@ open_inside-walk_inside-requires t c =
 pub open_inside-returns-then-without-ne0 : goal.open_inside-returns-then-without-ne0
 open_inside-returns-then-without-ne0 t c =
     let s = c.loop-number.invariant in
-    (chain_listed s c.loop-number-test.true (ap (λ x. x.0) c.cross-root.ensures) c.next_subtrie-subtrie.ensures.0 c.walk_inside.ensures.0, c.walk_inside.ensures.1)
+    (chain_listed s (omega arith) (ap (λ x. x.0) c.cross.ensures) c.next_subtrie-subtrie.ensures.0 c.walk_inside.ensures.0, c.walk_inside.ensures.1)
 
 pub open_inside-overflow_mul-key : goal.open_inside-overflow_mul-key
 open_inside-overflow_mul-key t c =
     let s = c.loop-number.invariant in
-    omega (arith, chain_key s c.loop-number-test.true (ap (λ x. x.0) c.cross-root.ensures) c.next_subtrie-subtrie.ensures.0 c.first_on-ending.ensures)
+    omega (arith, chain_key s (omega arith) (ap (λ x. x.0) c.cross.ensures) c.next_subtrie-subtrie.ensures.0 c.first_on-ending.ensures)
 
 pub open_inside-overflow_add-key : goal.open_inside-overflow_add-key
 open_inside-overflow_add-key t c =
     let s = c.loop-number.invariant in
-    omega (arith, chain_key s c.loop-number-test.true (ap (λ x. x.0) c.cross-root.ensures) c.next_subtrie-subtrie.ensures.0 c.first_on-ending.ensures)
+    omega (arith, chain_key s (omega arith) (ap (λ x. x.0) c.cross.ensures) c.next_subtrie-subtrie.ensures.0 c.first_on-ending.ensures)
 
 pub open_inside-loop-number-preserved : goal.open_inside-loop-number-preserved
 open_inside-loop-number-preserved t c =
     let s = c.loop-number.invariant in
-    chain_next s c.loop-number-test.true (ap (λ x. x.0) c.cross-root.ensures) c.next_subtrie-subtrie.ensures.0 c.first_on-ending.ensures c.without.ensures (omega (arith, c.if-without-ne0.false)) c.next_subtrie-subtrie.ensures.1
+    chain_next s (omega arith) (ap (λ x. x.0) c.cross.ensures) c.next_subtrie-subtrie.ensures.0 c.first_on-ending.ensures c.without.ensures (omega (arith, c.if-without-ne0.false)) c.next_subtrie-subtrie.ensures.1
 
 pub open_inside-put-requires : goal.open_inside-put-requires
 open_inside-put-requires t c = let s = c.loop-number.invariant in room_one _ _ _ _ (chain_end s (omega (arith, c.loop-number-test.false))) s.room
@@ -89,7 +89,7 @@ open_inside-put-requires t c = let s = c.loop-number.invariant in room_one _ _ _
 pub open_inside-returns : goal.open_inside-returns
 open_inside-returns t c =
     let s = c.loop-number.invariant in
-    (rw (c.put.ensures.0, c.put.ensures.1) (chain_put s (omega (arith, c.loop-number-test.false))), s.spots)
+    (rw (c.put.ensures.0, c.put.ensures.1) (chain_put s (omega (arith, c.loop-number-test.false))), s.right)
 
 -- ---- the walker
 
@@ -120,7 +120,7 @@ walk_inside-list_below-n-requires t c =
     let h = c.first_on-ending.ensures.small in
     let on = walk_on w c.first_on-ending.ensures in
     let p = c.requires in
-    (omega (arith, c.decreases, s.walking.to), (walked_opening s h on, s.spots, walked_room s h on))
+    (omega (arith, c.decreases, s.walking.to), (walked_opening s h on, s.right, walked_room s h on))
 
 pub walk_inside-overflow_add-next : goal.walk_inside-overflow_add-next
 walk_inside-overflow_add-next t c =
@@ -139,4 +139,4 @@ walk_inside-loop-rest-preserved t c =
     rw c.without-rest.ensures (walk_next w c.first_on-ending.ensures (walked_on s c.first_on-ending.ensures.small (walk_on w c.first_on-ending.ensures) c.list_below-n.ensures.0 c.list_below-n.ensures.1 c.list_below-n.auto.keys))
 
 pub walk_inside-returns : goal.walk_inside-returns
-walk_inside-returns t c = let s = c.loop-rest.invariant in (walk_end s (omega (arith, c.loop-rest-test.false)), s.walked.spots)
+walk_inside-returns t c = let s = c.loop-rest.invariant in (walk_end s (omega (arith, c.loop-rest-test.false)), s.walked.right)

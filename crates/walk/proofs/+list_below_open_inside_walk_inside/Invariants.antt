@@ -17,13 +17,10 @@ abbrev pub decreases-walk_inside : goal.decreases-walk_inside
 decreases-walk_inside l = 29 - 3 * l.number
 
 abbrev pub invariant-open_inside-loop-number : goal.invariant-open_inside-loop-number
-invariant-open_inside-loop-number l = Chain l.image l.band l.prefix l.done l.initial.keys l.number l.next.0 l.key l.keys l.state
-
-abbrev pub decreases-open_inside-loop-number : goal.decreases-open_inside-loop-number
-decreases-open_inside-loop-number l = 9 - l.number
+invariant-open_inside-loop-number l = Chain l.image l.band l.prefix l.done l.initial.keys l.number l.next.0 l.key l.keys l.spots
 
 abbrev pub invariant-walk_inside-loop-rest : goal.invariant-walk_inside-loop-rest
-invariant-walk_inside-loop-rest l = Walk l.image any_key l.number l.set l.prefix l.done l.initial.keys l.n l.next.0 l.rest l.keys l.state
+invariant-walk_inside-loop-rest l = Walk l.image any_key l.number l.fn.subtrie.set l.prefix l.done l.initial.keys l.n l.next.0 l.rest l.keys l.spots
 
 abbrev pub decreases-walk_inside-loop-rest : goal.decreases-walk_inside-loop-rest
 decreases-walk_inside-loop-rest l = l.rest

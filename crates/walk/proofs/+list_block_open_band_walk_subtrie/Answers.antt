@@ -29,13 +29,13 @@ list_block-overflow_mul-number t c = let o = c.requires.0 in omega (arith, o.to)
 pub list_block-overflow_sub-number : goal.list_block-overflow_sub-number
 list_block-overflow_sub-number t c = let o = c.requires.0 in omega (arith, o.to)
 
-pub list_block-place_of-requires : goal.list_block-place_of-requires
-list_block-place_of-requires t c = let p = c.requires in (block_half p.0, p.1, block_short p.0)
+pub list_block-place_in-requires : goal.list_block-place_in-requires
+list_block-place_in-requires t c = let p = c.requires in (block_half p.0, p.1, block_short p.0)
 
 pub list_block-open_inside-requires : goal.list_block-open_inside-requires
 list_block-open_inside-requires t c =
     let p = c.requires in
-    (p.0, p.2, room_same _ _ _ _ (members_every _ _ _ _ (place_covers p.0 c.args.rectangle c.place_of.ensures c.in-Inside.is)) p.3)
+    (p.0, p.2, room_same _ _ _ _ (members_every _ _ _ _ (place_covers p.0 c.args.rectangle c.place_in.ensures c.in-Inside.is)) p.3)
 
 pub list_block-open_band-requires : goal.list_block-open_band-requires
 list_block-open_band-requires t c =
@@ -45,12 +45,12 @@ list_block-open_band-requires t c =
 pub list_block-returns-in-Apart : goal.list_block-returns-in-Apart
 list_block-returns-in-Apart t c =
     let p = c.requires in
-    (listed_none (members_cut _ _ _ _ (place_apart p.0 c.args.rectangle c.place_of.ensures c.in-Apart.is)), p.2)
+    (listed_none (members_cut _ _ _ _ (place_apart p.0 c.args.rectangle c.place_in.ensures c.in-Apart.is)), p.2)
 
 pub list_block-returns-in-Inside : goal.list_block-returns-in-Inside
 list_block-returns-in-Inside t c =
     let p = c.requires in
-    (listed_same (members_every _ _ _ _ (place_covers p.0 c.args.rectangle c.place_of.ensures c.in-Inside.is)) c.open_inside.ensures.0, c.open_inside.ensures.1)
+    (listed_same (members_every _ _ _ _ (place_covers p.0 c.args.rectangle c.place_in.ensures c.in-Inside.is)) c.open_inside.ensures.0, c.open_inside.ensures.1)
 
 pub list_block-returns-in-Across : goal.list_block-returns-in-Across
 list_block-returns-in-Across t c = c.open_band.ensures
@@ -60,14 +60,14 @@ list_block-returns-in-Across t c = c.open_band.ensures
 pub open_band-next_subtrie-subtrie-requires : goal.open_band-next_subtrie-subtrie-requires
 open_band-next_subtrie-subtrie-requires t c =
     let p = c.requires in
-    (p.0.ready, p.0.from, p.1, root_there p.0 p.1 (ap (λ x. x.0) c.cross-root.ensures), p.3)
+    (p.0.ready, p.0.from, p.1, root_there p.0 p.1 (ap (λ x. x.0) c.cross.ensures), p.3)
 
 pub open_band-walk_subtrie-requires : goal.open_band-walk_subtrie-requires
 open_band-walk_subtrie-requires t c =
     let p = c.requires in (
       omega (arith, c.requires.0, p.1),
       (
-        walking_start p.0 p.1 (ap (λ x. x.0) c.cross-root.ensures) c.next_subtrie-subtrie.ensures.0,
+        walking_start p.0 p.1 (ap (λ x. x.0) c.cross.ensures) c.next_subtrie-subtrie.ensures.0,
         p.2,
         c.next_subtrie-subtrie.ensures.1,
         room_same _ _ _ _ (members_same p.0 p.1 (inside c.args.rectangle)) p.4,
@@ -103,7 +103,7 @@ walk_subtrie-list_block-n-requires t c =
     let h = c.first_on-ending.ensures.small in
     let on = walk_on w c.first_on-ending.ensures in
     let p = c.requires in
-    (omega (arith, c.decreases, s.walking.to), (rw c.part-below.ensures.1 (walked_opening s h on), c.part-below.ensures.0, s.spots, rw c.part-below.ensures.1 (walked_room s h on)))
+    (omega (arith, c.decreases, s.walking.to), (rw c.part-below.ensures.1 (walked_opening s h on), c.part-below.ensures.0, s.right, rw c.part-below.ensures.1 (walked_room s h on)))
 
 pub walk_subtrie-overflow_add-next : goal.walk_subtrie-overflow_add-next
 walk_subtrie-overflow_add-next t c =
@@ -121,4 +121,4 @@ walk_subtrie-loop-rest-preserved t c =
     rw c.without-rest.ensures (walk_next w c.first_on-ending.ensures (walked_on s c.first_on-ending.ensures.small (walk_on w c.first_on-ending.ensures) (rw c.part-below.ensures.1 at c.list_block-n.ensures.0) c.list_block-n.ensures.1 c.list_block-n.auto.keys))
 
 pub walk_subtrie-returns : goal.walk_subtrie-returns
-walk_subtrie-returns t c = let s = c.loop-rest.invariant in (walk_end s (omega (arith, c.loop-rest-test.false)), s.walked.spots)
+walk_subtrie-returns t c = let s = c.loop-rest.invariant in (walk_end s (omega (arith, c.loop-rest-test.false)), s.walked.right)

@@ -16,7 +16,7 @@ abbrev pub decreases-walk_subtrie : goal.decreases-walk_subtrie
 decreases-walk_subtrie l = 29 - 3 * l.number
 
 abbrev pub invariant-walk_subtrie-loop-rest : goal.invariant-walk_subtrie-loop-rest
-invariant-walk_subtrie-loop-rest l = Walk l.image (inside l.rectangle) l.number l.set l.block.prefix l.done l.initial.keys l.n l.next.0 l.rest l.keys l.state
+invariant-walk_subtrie-loop-rest l = Walk l.image (inside l.rectangle) l.number l.fn.subtrie.set l.block.prefix l.done l.initial.keys l.n l.next.0 l.rest l.keys l.spots
 
 abbrev pub decreases-walk_subtrie-loop-rest : goal.decreases-walk_subtrie-loop-rest
 decreases-walk_subtrie-loop-rest l = l.rest

@@ -5,13 +5,13 @@ use Rattle.walk.proofs.Places.{listed_none, listed_one}
 use Rattle.walk.proofs.list_key.Goals as goal
 
 pub put-requires : goal.put-requires
-put-requires c = c.requires.1 (sym c.contains.ensures ∙ c.if-contains.true)
+put-requires c = c.requires.1 (sym c.is_in.ensures ∙ c.if-is_in.true)
 
-pub returns-then-contains : goal.returns-then-contains
+pub returns-then-is_in : goal.returns-then-is_in
 unfolding cons_if select
-returns-then-contains c =
-    rw (c.put.ensures.0, c.put.ensures.1) (listed_one _ (rw (sym c.contains.ensures ∙ c.if-contains.true)))
+returns-then-is_in c =
+    rw (c.put.ensures.0, c.put.ensures.1) (listed_one _ (rw (sym c.is_in.ensures ∙ c.if-is_in.true)))
 
 pub returns : goal.returns
 unfolding cons_if select
-returns c = listed_none (rw (sym c.contains.ensures ∙ c.if-contains.false))
+returns c = listed_none (rw (sym c.is_in.ensures ∙ c.if-is_in.false))

@@ -1,7 +1,7 @@
--- `walk::all_keys` meets its contract. Assumes nothing.
+-- `walk::block::Block::whole` meets its contract. Assumes nothing.
 use mathlib.Core.Path.{refl}
 use Rattle.format.specs.Key.{gather, holder_of, slot_of}
-use Rattle.walk.proofs.all_keys.Goals as goal
+use Rattle.walk.proofs.block.Block.whole.Goals as goal
 
 pub returns : goal.returns
 unfolding gather holder_of slot_of
