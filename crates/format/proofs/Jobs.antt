@@ -29,6 +29,11 @@ yes_of_returns qs a b e = go (first_no qs) refl e
     go none d k = (d, cc)
     go (some m) d k = absurd (let z : ◌≡◌ {A = ℕ} 0 1 = cc in omega arith)
 
+-- the first no settles the outcome
+pub refusal_settled : {A : Type 0} (qs : List Question) (a : A) (n : ℕ) → some n ≡ first_no qs → refused n ≡ settle qs a
+unfolding settle outcome
+refusal_settled qs a n e = ap (λ o. outcome o a) e
+
 -- and the other way round
 pub settle_no : {A : Type 0} (qs : List Question) (a : A) (n : ℕ) → first_no qs ≡ some n → settle qs a ≡ refused n
 unfolding settle outcome

@@ -2,24 +2,27 @@
 -- Assumes nothing.
 use mathlib.Core.Path.{◌≡◌, sym, ap, ◌∙◌}
 use mathlib.Core.Bool.{Bool, true, false, ◌||◌}
-use mathlib.Core.Option.{some}
+use mathlib.Core.Option.{none, some}
+use Rattle.std.specs.Prelude.{is_some, unwrap_or}
 use mathlib.Core.List.{List}
 use Prim.Native.Nat.{ℕ, ◌<◌}
 use native.Mathlib.Omega.{arith}
 use lib.Dec.{eqb}
 use borrow.Author.Tests.{eq-eqb, ne_eqb}
-use Rattle.format.specs.Seq.{is_in}
+use Rattle.format.specs.Seq.{All, is_in}
+use Rattle.format.specs.Page.{Byte}
 use Rattle.format.specs.Key.{holder_of}
 use Rattle.format.specs.Image.{key_count, keys_of, lift_of}
-use Rattle.format.specs.Question.{Outcome, first_no, image_questions, is_zero, outcome, refused, returns, settle}
+use Rattle.format.specs.Question.{Outcome, Question, first_no, image_questions, is_zero, outcome, refused, returns, settle}
 use Rattle.format.specs.Answer.{LookupAnswer, absent, listed, lookup, lookup_answer}
 use Rattle.format.specs.Scan.{gate_questions, holder_record, lift_fits, lockout_questions, records_after, records_after_scan, scan, scan_questions}
 use Rattle.format.proofs.Questions.{after_no, after_yes, yes_of_none}
-use Rattle.format.proofs.Jobs.{no_of_refused}
+use Rattle.format.proofs.Jobs.{no_of_refused, yes_of_returns}
 use Rattle.format.proofs.Keys.{holder_of_key_of}
-use Rattle.format.proofs.LookupAnswers.{image_yes, key, of_absent, of_listed, rank_of}
-use Rattle.header.specs.Refusal.{refusal_of}
-use Rattle.header.proofs.Refusals.{none_refused, passed_first, refused_first, refused_outcome}
+use Rattle.format.proofs.LookupAnswers.{image_yes, key, of_absent, of_listed, rank_of, rank_small}
+use Rattle.paged_lookup.specs.declared.Found.{Found}
+use Rattle.paged_lookup.specs.declared.Found.TheVariants.{Absent, Listed}
+use Rattle.paged_lookup.specs.Outcomes.{answer_of, rank_in}
 
 -- 36
 module _ (lift : ℕ) (img : List ℕ) (n : ℕ) (e : n ≡ lift_of img) where
@@ -49,52 +52,67 @@ module _ (lift : ℕ) (img records : List ℕ) (lane holder slot time lockout : 
   done o e = (e, ap (λ (q : Outcome ℕ). records_after q (key_count img) records lane time) e)
 
   -- a refused image
-  pub image_refused : (n : ℕ) → lookup img holder slot ≡ refused n → Done (refused n) records
+  pub image_refused : (n : ℕ) → refused n ≡ lookup img holder slot → Done (refused n) records
   unfolding lookup scan settle outcome records_after
   image_refused n e =
-      let first : first_no (image_questions img) ≡ some n = no_of_refused (image_questions img) (lookup_answer img own_key) n e in
+      let first : first_no (image_questions img) ≡ some n = no_of_refused (image_questions img) (lookup_answer img own_key) n (sym e) in
       done (refused n) (sym (ap (λ o. outcome o own-rank) (after_no (image_questions img) (scan_questions lift img records lane own_key time lockout) n first)))
 
-  -- an accepted image, and what 36, 29 and 21 to 24 answered, with what lookup said for 24
-  module _ (answer : LookupAnswer) (e : lookup img holder slot ≡ returns answer) (t : Bool) (is-in : is_in own_key (keys_of img) ≡ t) (refusal : ℕ)
-      (first : refusal_of refusal ≡ first_no (gate_questions (lift_fits lift img) (key_count img) records lane t time)) where
+  -- an accepted image, and what lookup found
+  module _ (found : Found) (e : returns (answer_of found) ≡ lookup img holder slot) where
+    -- the questions of the gate, with what lookup says for 24
+    abbrev pub at_gate : List Question
+    at_gate = gate_questions (lift_fits lift img) (key_count img) records lane (is_some (rank_in found)) time
+
+    in-list : is_in own_key (keys_of img) ≡ is_some (rank_in found)
+    in-list = go found e
+      where
+        go : (found : Found) → returns (answer_of found) ≡ lookup img holder slot → is_in own_key (keys_of img) ≡ is_some (rank_in found)
+        go (Listed rank pages) e = (of_listed img holder slot rank pages (sym e)).0
+        go (Absent smaller) e = (of_absent img holder slot smaller (sym e)).0
+
     scan-is : scan lift img records lane holder slot time lockout ≡ settle (scan_questions lift img records lane own_key time lockout) own-rank
     unfolding scan settle
-    scan-is = ap (λ o. outcome o own-rank) (after_yes (image_questions img) _ (image_yes img holder slot answer e))
+    scan-is = ap (λ o. outcome o own-rank) (after_yes (image_questions img) _ (image_yes img holder slot (answer_of found) (sym e)))
 
-    asked : refusal_of refusal ≡ first_no (gate_questions (lift_fits lift img) (key_count img) records lane (is_in own_key (keys_of img)) time)
-    asked = first ∙ ap (λ (s : Bool). first_no (gate_questions (lift_fits lift img) (key_count img) records lane s time)) (sym is-in)
+    asked : first_no at_gate ≡ first_no (gate_questions (lift_fits lift img) (key_count img) records lane (is_in own_key (keys_of img)) time)
+    asked = ap (λ (s : Bool). first_no (gate_questions (lift_fits lift img) (key_count img) records lane s time)) (sym in-list)
 
     -- one of them gets a no
-    gate-refused : (refusal ≡ 0 → ⊥) → Done (refused refusal) records
-    unfolding scan_questions settle records_after
-    gate-refused some-no =
-        done (refused refusal) (refused_outcome refusal own-rank some-no ∙ ap (λ o. outcome o own-rank) (refused_first refusal _ asked (lockout_questions (holder_record img records (holder_of own_key)) time lockout) some-no) ∙ sym scan-is)
+    pub gate_refused : (n : ℕ) → refused n ≡ settle at_gate (unwrap_or (rank_in found) 0) → Done (refused n) records
+    unfolding scan_questions settle outcome records_after
+    gate_refused n d =
+        let no : first_no (gate_questions (lift_fits lift img) (key_count img) records lane (is_in own_key (keys_of img)) time) ≡ some n = sym asked ∙ no_of_refused at_gate _ n (sym d) in
+        done (refused n) (sym (scan-is ∙ ap (λ o. outcome o own-rank) (after_no _ (lockout_questions (holder_record img records (holder_of own_key)) time lockout) n no)))
 
-    -- none does, and 25 and 26 decide
-    gate-passed : refusal ≡ 0 → scan lift img records lane holder slot time lockout ≡ settle (lockout_questions (holder_record img records (holder_of own_key)) time lockout) own-rank
-    unfolding scan_questions settle
-    gate-passed z = scan-is ∙ ap (λ o. outcome o own-rank) (passed_first refusal _ asked (lockout_questions (holder_record img records (holder_of own_key)) time lockout) z)
+    -- none does: the admission is listed, with that rank
+    module _ (rank : ℕ) (d : returns rank ≡ settle at_gate (unwrap_or (rank_in found) 0)) where
+      pub gate_yes : first_no at_gate ≡ none
+      gate_yes = (yes_of_returns at_gate _ rank (sym d)).0
 
-  -- an admission that is not listed: 24 at the latest
-  pub scanned_absent : (refusal smaller : ℕ) → lookup img holder slot ≡ returns (absent smaller) → refusal_of refusal ≡ first_no (gate_questions (lift_fits lift img) (key_count img) records lane false time)
-      → Done (refused refusal) records
-  unfolding gate_questions
-  scanned_absent refusal smaller e first =
-      gate-refused (absent smaller) e false (of_absent img holder slot smaller e).0 refusal first (λ z. let absent-in : false ≡ true = (yes_of_none _ (none_refused refusal _ first z)).1.1.1.1.1.0 in let w : ◌≡◌ {A = ℕ} 0 1 = cc in omega arith)
+      is-listed : is_some (rank_in found) ≡ true
+      unfolding gate_questions
+      is-listed = (yes_of_none at_gate gate_yes).1.1.1.1.1.0
 
-  -- a listed one
-  module _ (rank : ℕ) (pages : List ℕ) (e : lookup img holder slot ≡ returns (listed rank pages)) (refusal : ℕ)
-      (first : refusal_of refusal ≡ first_no (gate_questions (lift_fits lift img) (key_count img) records lane true time)) where
-    -- 36, 29 and 21 to 24
-    pub scanned_no : (refusal ≡ 0 → ⊥) → Done (refused refusal) records
-    scanned_no = gate-refused (listed rank pages) e true (of_listed img holder slot rank pages e).0 refusal first
+      told : (pages : List ℕ) × (returns (listed rank pages) ≡ lookup img holder slot)
+      told = go found e is-listed (yes_of_returns at_gate _ rank (sym d)).1
+        where
+          go : (found : Found) → returns (answer_of found) ≡ lookup img holder slot → is_some (rank_in found) ≡ true → unwrap_or (rank_in found) 0 ≡ rank → (pages : List ℕ) × (returns (listed rank pages) ≡ lookup img holder slot)
+          go (Listed r pages) e t k = (pages, ap (λ (r : ℕ). returns (listed r pages)) (sym k) ∙ e)
+          go (Absent smaller) e t k = absurd (let z : ◌≡◌ {A = ℕ} 0 1 = cc in omega arith)
 
-    -- 25 and 26, of the holder's record; n is the key count that the code holds
-    pub scanned_yes : refusal ≡ 0 → (n last : ℕ) → n ≡ key_count img → holder < 65536 → last ≡ holder_record img records holder → (o : Outcome ℕ) (after : List ℕ)
-        → (o ≡ settle (lockout_questions last time lockout) rank) × (after ≡ records_after o n records lane time) → Done o after
-    scanned_yes z n last k small l o after d =
-        let own : rank ≡ own-rank = sym (of_listed img holder slot rank pages e).1 in
-        let whose : last ≡ holder_record img records (holder_of own_key) = l ∙ ap (holder_record img records) (sym (holder_of_key_of holder slot small)) in
-        let all = done o (d.0 ∙ (λ i. settle (lockout_questions (whose i) time lockout) (own i)) ∙ sym (gate-passed (listed rank pages) e true (of_listed img holder slot rank pages e).0 refusal first z)) in
-        (all.0, d.1 ∙ ap (λ (m : ℕ). records_after o m records lane time) k ∙ all.1)
+      own-is : rank ≡ own-rank
+      own-is = sym (of_listed img holder slot rank told.0 (sym told.1)).1
+
+      pub rank_below : All Byte img → rank < key_count img
+      rank_below a = rank_small img holder slot rank told.0 (sym told.1) a
+
+      -- 25 and 26, of the holder's record; n is the key count that the code holds
+      pub scanned_yes : (n last : ℕ) → n ≡ key_count img → holder < 65536 → last ≡ holder_record img records holder → (o : Outcome ℕ) (after : List ℕ)
+          → (o ≡ settle (lockout_questions last time lockout) rank) × (after ≡ records_after o n records lane time) → Done o after
+      unfolding scan_questions settle
+      scanned_yes n last k small l o after d =
+          let whose : last ≡ holder_record img records (holder_of own_key) = l ∙ ap (holder_record img records) (sym (holder_of_key_of holder slot small)) in
+          let passed = scan-is ∙ ap (λ o. outcome o own-rank) (after_yes _ (lockout_questions (holder_record img records (holder_of own_key)) time lockout) (sym asked ∙ gate_yes)) in
+          let all = done o (d.0 ∙ (λ i. settle (lockout_questions (whose i) time lockout) (own-is i)) ∙ sym passed) in
+          (all.0, d.1 ∙ ap (λ (m : ℕ). records_after o m records lane time) k ∙ all.1)

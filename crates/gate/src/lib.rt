@@ -1,25 +1,14 @@
 // The gate's scan: whether a card opens, and what is recorded.
 #![tactic(auto)]
 
-ghost use Rattle.std.specs.Prelude.{◌≡◌, ◌≤◌, ◌<◌, ltb, length, get_or};
-ghost use Rattle.format.specs.Question.{first_no, settle};
+ghost use Rattle.std.specs.Prelude.{◌≡◌, ◌≤◌, ◌<◌, is_some, unwrap_or, ltb, length, get_or};
+ghost use Rattle.format.specs.Question.{settle};
 ghost use Rattle.format.specs.Image.{key_count};
+ghost use Rattle.format.specs.Refusal.{outcome_of};
 ghost use Rattle.format.specs.Scan;
-ghost use Rattle.header.specs.Refusal.{refusal_of};
-ghost use Rattle.gate.specs.Outcomes.{outcome_of};
 
-use format::{LANES, one_to};
+use format::{LANES, Refusal, one_to};
 use holder::holder_record;
-use paged_lookup::Presence;
-
-// What a scan gets.
-#[derive(Clone, Copy)]
-pub enum Scanned {
-    // The rank whose opening was recorded.
-    Opened(u32),
-    // The number of the question that got a no.
-    Refused(u8),
-}
 
 // 36: the image names no lift, or the gate's.
 fn lift_fits(image: &[u8], lift: u32) -> bool
@@ -76,32 +65,39 @@ fn below_end(records: &[u32], place: usize) -> bool
     records[place] < 4294967295
 }
 
-// 36, 29 and 21 to 24, of an image with a header: the number of the first that gets a no, 0 where none does.
-fn gate_refusal(image: &[u8], records: &[u32], lane: u32, lift: u32, listed: bool, time: u32) -> u8
+// 36, 29 and 21 to 24, of an image with a header: the rank of the admission, where it is listed.
+fn at_gate(
+    image: &[u8],
+    records: &[u32],
+    lane: u32,
+    lift: u32,
+    rank: Option<u32>,
+    time: u32,
+) -> Result<u32, Refusal>
     requires { 64 ≤ length image.now }
-    ensures { refusal_of result ≡ first_no (Scan.gate_questions (Scan.lift_fits lift image.now) (key_count image.now) records.now lane listed time) }
+    ensures { outcome_of result ≡ settle (Scan.gate_questions (Scan.lift_fits lift image.now) (key_count image.now) records.now lane (is_some rank) time) (unwrap_or rank 0) }
 {
     let keys = header::key_count(image);
     let fits = lift_fits(image, lift);
     let lane_right = is_lane(lane);
     let length_right = records.len() == keys + LANES;
     if !fits {
-        return 36;
+        return Err(Refusal::Gate);
     }
     if !lane_right {
-        return 29;
+        return Err(Refusal::Lane);
     }
     if !length_right {
-        return 21;
+        return Err(Refusal::Records);
     }
     if time == 4294967295 {
-        return 22;
+        return Err(Refusal::Time);
     }
     let count_place = lane_place(keys, lane);
     if !below_end(records, count_place) {
-        return 23;
+        return Err(Refusal::Openings);
     }
-    if listed { 0 } else { 24 }
+    rank.ok_or(Refusal::Admission)
 }
 
 // 25 and 26, of the holder's record `last`, where the lane, the records and the time fit; and the opening of the admission at `rank`.
@@ -113,22 +109,22 @@ fn admit(
     last: u32,
     time: u32,
     lockout: u32,
-) -> Scanned
+) -> Result<u32, Refusal>
     requires { (keys < 65536) × (rank < keys) × (Scan.RecordsFit keys records.old lane time) }
     ensures { (outcome_of result ≡ settle (Scan.lockout_questions last time lockout) rank) × (records.new ≡ Scan.records_after (outcome_of result) keys records.old lane time) }
 {
     let record_place = rank as usize;
     if !time_right(last, time) {
-        return Scanned::Refused(25);
+        return Err(Refusal::Earlier);
     }
     if !lockout_over(last, time, lockout) {
-        return Scanned::Refused(26);
+        return Err(Refusal::Lockout);
     }
     let count_place = lane_place(keys, lane);
     let openings = records[count_place];
     records[record_place] = time + 1;
     records[count_place] = openings + 1;
-    Scanned::Opened(rank)
+    Ok(rank)
 }
 
 // Whether the admission opens in that lane of a gate of that lift, at that time, after the lockout since its holder's last opening under any listed slot.
@@ -142,26 +138,12 @@ pub fn scan(
     lockout: u32,
     lane: u32,
     lift: u32,
-) -> Scanned
+) -> Result<u32, Refusal>
     ensures { (outcome_of result ≡ Scan.scan lift image.now records.old lane holder slot time lockout) × (records.new ≡ Scan.records_after_scan lift image.now records.old lane holder slot time lockout) }
 {
-    let found = query::lookup(image, holder, slot);
-    let answer = found.answer;
-    match answer {
-        Presence::Refused(n) => {
-            return Scanned::Refused(n);
-        }
-        Presence::Absent(_) => {
-            return Scanned::Refused(gate_refusal(image, records, lane, lift, false, time));
-        }
-        Presence::Listed(rank) => {
-            let refusal = gate_refusal(image, records, lane, lift, true, time);
-            if refusal != 0 {
-                return Scanned::Refused(refusal);
-            }
-            let keys = header::key_count(image);
-            let last = holder_record(image, records, holder);
-            return admit(records, keys, lane, rank, last, time, lockout);
-        }
-    }
+    let found = query::lookup(image, holder, slot)?;
+    let rank = at_gate(image, records, lane, lift, found.rank(), time)?;
+    let keys = header::key_count(image);
+    let last = holder_record(image, records, holder);
+    admit(records, keys, lane, rank, last, time, lockout)
 }

@@ -1,6 +1,6 @@
 -- The lookups' answer in the papers' terms: a refusal's number, or what the job returns.
 -- Assumes nothing.
-use Rattle.std.specs.Prelude.{Result, Ok, Err}
+use Rattle.std.specs.Prelude.{ℕ, Option, Some, None, Result, Ok, Err}
 use Rattle.format.specs.Question.{Outcome, refused, returns}
 use Rattle.format.specs.Answer.{LookupAnswer, absent, listed}
 use Rattle.format.specs.Refusal.{number_of}
@@ -16,3 +16,8 @@ answer_of (Absent smaller) = absent smaller
 abbrev pub lookup_outcome : Result Found Refusal → Outcome LookupAnswer
 lookup_outcome (Ok found) = returns (answer_of found)
 lookup_outcome (Err refusal) = refused (number_of refusal)
+
+-- the rank of a listed admission
+abbrev pub rank_in : Found → Option ℕ
+rank_in (Listed rank pages) = Some rank
+rank_in (Absent smaller) = None

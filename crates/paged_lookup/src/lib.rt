@@ -8,7 +8,7 @@ mod page;
 ghost use Rattle.std.specs.Prelude.{◌≡◌, true};
 ghost use Rattle.format.specs.Exact.{Accepted};
 ghost use Rattle.paged_lookup.specs.Paged.{paged_answer, paged_lookup};
-ghost use Rattle.paged_lookup.specs.Outcomes.{lookup_outcome};
+ghost use Rattle.paged_lookup.specs.Outcomes.{lookup_outcome, rank_in};
 ghost use Rattle.paged_lookup.specs.Way.{HeaderYes};
 
 use band::through;
@@ -24,6 +24,18 @@ pub enum Found {
     Listed { rank: u32, pages: [u32; 8] },
     // How many listed admissions have a smaller key.
     Absent { smaller: u32 },
+}
+
+impl Found {
+    // The rank of a listed admission.
+    pub fn rank(self) -> Option<u32>
+        ensures { result ≡ rank_in self }
+    {
+        match self {
+            Found::Listed { rank, .. } => Some(rank),
+            Found::Absent { .. } => None,
+        }
+    }
 }
 
 // The walk of a key from band to band, in an image whose 1 to 7 get a yes; where `accepted` is true all of 1 to 13 do, and no page is judged again.

@@ -1,18 +1,21 @@
--- `gate::gate_refusal` meets its contract: at each return the questions before got a yes. Assumes nothing.
+-- `gate::at_gate` meets its contract: at each return the questions before got a yes. Assumes nothing.
 use mathlib.Core.Bool.{Bool, true}
-use mathlib.Core.List.{List}
+use mathlib.Core.List.{List, [], ◌∷◌}
 use mathlib.Core.Path.{◌≡◌, refl, sym, ap, ◌∙◌}
 use Prim.Native.Nat.{ℕ, ◌+◌, ◌<◌}
 use native.Mathlib.Omega.{arith}
 use lib.Dec.{eqb, ltb}
 use lib.ListN.{length, get_or}
 use borrow.Author.Tests.{eq-eqb, ne_eqb, lt-ltb, le-ltb}
-use Rattle.format.specs.Question.{Question, first_no}
+use Rattle.format.specs.Question.{Question, first_no, outcome, settle}
 use Rattle.format.specs.Scan.{gate_questions, is_lane, lane_place}
 use Rattle.format.proofs.Questions.{Past, no_to, yes_to}
-use Rattle.header.specs.Refusal.{refusal_of}
+use Rattle.format.specs.Refusal.{outcome_of}
+use Rattle.format.specs.declared.refusal.Refusal.TheVariants.{Admission}
+use Rattle.format.proofs.Jobs.{refusal_settled}
+use Rattle.std.specs.Prelude.{Option, None, Some, is_some, ok_or, unwrap_or}
 use Rattle.format.proofs.Histories.{lane_range}
-use Rattle.gate.proofs.gate_refusal.Goals as goal
+use Rattle.gate.proofs.at_gate.Goals as goal
 
 -- the questions that got a yes so far, where `n` is the key count that was read
 module _ (fits : Bool) (keys : ℕ) (records : List ℕ) (lane : ℕ) (listed : Bool) (time : ℕ) where
@@ -54,34 +57,39 @@ module _ (fits : Bool) (keys : ℕ) (records : List ℕ) (lane : ℕ) (listed : 
             unfolding gate_questions
             past23 = yes_to 23 _ _ _ _ past22 (asked_23 n place below n_is place_is below_is) below_yes
 
-            past24 : listed ≡ true → Past 6 questions
-            unfolding gate_questions
-            past24 listed_yes = yes_to 24 _ _ _ _ past23 refl listed_yes
+-- 24 alone is left, and the rank tells
+last_settled : (rank : Option ℕ) (qs : List Question) → first_no qs ≡ first_no ((24, is_some rank) ∷ []) → outcome_of (ok_or rank Admission) ≡ settle qs (unwrap_or rank 0)
+unfolding settle first_no outcome
+last_settled None qs p = sym (ap (λ o. outcome o 0) p)
+last_settled (Some rank) qs p = sym (ap (λ o. outcome o rank) p)
 
 pub returns-then-not-fits : goal.returns-then-not-fits
-unfolding refusal_of gate_questions
-returns-then-not-fits c = no_to 36 _ _ _ _ refl c.lift_fits-fits.ensures c.if-not-fits.true
+unfolding gate_questions
+returns-then-not-fits c = refusal_settled _ _ 36 (no_to 36 _ _ _ _ refl c.lift_fits-fits.ensures c.if-not-fits.true)
 
 pub returns-then-not-lane_right : goal.returns-then-not-lane_right
-unfolding refusal_of gate_questions
+unfolding gate_questions
 returns-then-not-lane_right c =
-    no_to 29 _ _ _ _
+    refusal_settled _ _ 29
+    (no_to 29 _ _ _ _
     (past36 _ _ _ _ _ _ _ c.lift_fits-fits.ensures c.if-not-fits.false)
-    c.is_lane-lane_right.ensures c.if-not-lane_right.true
+    c.is_lane-lane_right.ensures c.if-not-lane_right.true)
 
 pub returns-then-not-length_right : goal.returns-then-not-length_right
-unfolding refusal_of gate_questions
+unfolding gate_questions
 returns-then-not-length_right c =
-    no_to 21 _ _ _ _
+    refusal_settled _ _ 21
+    (no_to 21 _ _ _ _
     (past29 _ _ _ _ _ _ _ c.lift_fits-fits.ensures c.if-not-fits.false _ c.is_lane-lane_right.ensures c.if-not-lane_right.false)
-    (ap (λ (m : ℕ). eqb (length c.args.records.now) (m + 8)) c.key_count-keys.ensures.0) (ne_eqb _ _ c.if-not-length_right.true)
+    (ap (λ (m : ℕ). eqb (length c.args.records.now) (m + 8)) c.key_count-keys.ensures.0) (ne_eqb _ _ c.if-not-length_right.true))
 
 pub returns-then-time-eq4294967295 : goal.returns-then-time-eq4294967295
-unfolding refusal_of gate_questions
+unfolding gate_questions
 returns-then-time-eq4294967295 c =
-    no_to 22 _ _ _ _
+    refusal_settled _ _ 22
+    (no_to 22 _ _ _ _
     (past21 _ _ _ _ _ _ _ c.lift_fits-fits.ensures c.if-not-fits.false _ c.is_lane-lane_right.ensures c.if-not-lane_right.false _ c.key_count-keys.ensures.0 c.if-not-length_right.false)
-    refl (le-ltb c.args.time 4294967295 (omega (arith, c.if-time-eq4294967295.true)))
+    refl (le-ltb c.args.time 4294967295 (omega (arith, c.if-time-eq4294967295.true))))
 
 pub lane_place-count_place-requires : goal.lane_place-count_place-requires
 lane_place-count_place-requires c =
@@ -94,21 +102,14 @@ below_end-requires c =
     omega (arith, c.lane_place-count_place.ensures, lane_range _ (sym c.is_lane-lane_right.ensures ∙ c.if-not-lane_right.false), size)
 
 pub returns-then-not-below_end : goal.returns-then-not-below_end
-unfolding refusal_of gate_questions
+unfolding gate_questions
 returns-then-not-below_end c =
-    no_to 23 _ _ _ _
+    refusal_settled _ _ 23
+    (no_to 23 _ _ _ _
     (past22 _ _ _ _ _ _ _ c.lift_fits-fits.ensures c.if-not-fits.false _ c.is_lane-lane_right.ensures c.if-not-lane_right.false _ c.key_count-keys.ensures.0 c.if-not-length_right.false (omega (arith, c.if-time-eq4294967295.false)))
-    (asked_23 true _ c.args.records.now _ true 0 _ _ _ c.key_count-keys.ensures.0 c.lane_place-count_place.ensures c.below_end.ensures) c.if-not-below_end.true
+    (asked_23 true _ c.args.records.now _ true 0 _ _ _ c.key_count-keys.ensures.0 c.lane_place-count_place.ensures c.below_end.ensures) c.if-not-below_end.true)
 
-pub returns-then-listed : goal.returns-then-listed
-unfolding refusal_of gate_questions first_no
-returns-then-listed c =
-    sym
-    (past24 _ _ _ _ _ _ _ c.lift_fits-fits.ensures c.if-not-fits.false _ c.is_lane-lane_right.ensures c.if-not-lane_right.false _ c.key_count-keys.ensures.0 c.if-not-length_right.false (omega (arith, c.if-time-eq4294967295.false)) _ c.lane_place-count_place.ensures _ c.below_end.ensures c.if-not-below_end.false c.if-listed.true)
-
-pub returns-else-listed : goal.returns-else-listed
-unfolding refusal_of gate_questions
-returns-else-listed c =
-    no_to 24 _ _ _ _
-    (past23 _ _ _ _ _ _ _ c.lift_fits-fits.ensures c.if-not-fits.false _ c.is_lane-lane_right.ensures c.if-not-lane_right.false _ c.key_count-keys.ensures.0 c.if-not-length_right.false (omega (arith, c.if-time-eq4294967295.false)) _ c.lane_place-count_place.ensures _ c.below_end.ensures c.if-not-below_end.false)
-    refl c.if-listed.false
+pub returns : goal.returns
+returns c = rw c.ok_or.ensures.value
+    (last_settled c.args.rank _
+    (past23 _ _ _ _ _ _ _ c.lift_fits-fits.ensures c.if-not-fits.false _ c.is_lane-lane_right.ensures c.if-not-lane_right.false _ c.key_count-keys.ensures.0 c.if-not-length_right.false (omega (arith, c.if-time-eq4294967295.false)) _ c.lane_place-count_place.ensures _ c.below_end.ensures c.if-not-below_end.false))

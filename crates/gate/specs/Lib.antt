@@ -1,3 +1,0 @@
--- The gate's scan: its answer in the papers' terms.
-
-pub mod Outcomes
