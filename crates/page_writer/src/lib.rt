@@ -127,8 +127,7 @@ pub fn fill_page(page: &mut [u8], keys: &mut [u32], count: usize, head: Head) ->
     let levels = fill_levels(page, keys, count);
     let roots = keys.len() - levels.first;
     let words = nodes::gather(page, 0);
-    let links = nodes::on_bits(&words.before)
-        - nodes::on_bits_before(&words.word, &words.before, levels.node);
+    let links = words.on_bits() - words.on_bits_before(levels.node);
     Head {
         t: Root(head.t.0 + roots),
         b: OutLink(head.b.0 + links),
