@@ -3,7 +3,7 @@
 use mathlib.Core.Path.{◌≡◌, refl, sym, ap}
 use mathlib.Core.Bool.{not}
 use mathlib.Core.List.{List, [], ◌∷◌, ◌++◌, map, flat_map}
-use Prim.Native.Nat.{ℕ, ◌+◌, ◌-◌, ◌*◌, ◌/◌, ◌≤◌}
+use Prim.Native.Nat.{ℕ, ◌+◌, ◌-◌, ◌*◌, ◌/◌, ◌≤◌, ◌<◌}
 use native.Mathlib.Omega.{arith}
 use lib.Dec.{eqb}
 use lib.ListN.{length, get_or, length-append, length-map}
@@ -19,12 +19,11 @@ use Rattle.format.proofs.Questions.{none_of_yes, yes_of_none}
 use Rattle.format.proofs.Jobs.{yes_of_returns}
 use Rattle.format.proofs.Checked.{checked, lift_is}
 use Rattle.format.proofs.Back.{listed}
-use Rattle.checker.specs.Outcomes.{outcome_of}
-use Rattle.checker.specs.declared.Checked.{Checked}
-use Rattle.checker.specs.declared.Checked.TheVariants.{Accepted, Refused}
+use Rattle.std.specs.Prelude.{IfOk, Result, Ok, Err}
+use Rattle.format.specs.Refusal.{outcome_of}
+use Rattle.format.specs.declared.refusal.Refusal.{Refusal}
 use Rattle.repair.specs.Numbers.{restored}
 use Rattle.repair.specs.Repair.{differing, number_places, page_places, repair, repair_questions}
-use Rattle.capi.specs.Small.{WithinCount}
 
 -- a job that asks 1 to 13 first and returns the number of some of the keys
 members_few : (img : List ℕ) → All Byte img → (qs : List Question) (rectangle : Rectangle) (n : ℕ) → settle (image_questions img ++ qs) (length (member_keys img rectangle)) ≡ returns n → n ≤ 4096
@@ -34,11 +33,11 @@ members_few img a qs rectangle n e =
     let c = checked img (none_of_yes (image_questions img) (all_left Yes (image_questions img) qs (yes_of_none (image_questions img ++ qs) none-no))) in
     omega (arith, select_short (inside rectangle) (keys_of img), (listed img a c).keys.count_is, c.header.few)
 
-pub count_few : (img : List ℕ) → All Byte img → (rectangle : Rectangle) (n : ℕ) → count img rectangle ≡ returns n → n ≤ 4096
+count_few : (img : List ℕ) → All Byte img → (rectangle : Rectangle) (n : ℕ) → count img rectangle ≡ returns n → n ≤ 4096
 unfolding count
 count_few img a rectangle n e = members_few img a _ rectangle n e
 
-pub list_few : (img : List ℕ) → All Byte img → (rectangle : Rectangle) (buffer : List ℕ) (n : ℕ) → listing img rectangle buffer ≡ returns n → n ≤ 4096
+list_few : (img : List ℕ) → All Byte img → (rectangle : Rectangle) (buffer : List ℕ) (n : ℕ) → listing img rectangle buffer ≡ returns n → n ≤ 4096
 unfolding listing
 list_few img a rectangle buffer n e = members_few img a _ rectangle n e
 
@@ -54,16 +53,25 @@ lift_few img n e =
     let h = (checked img none-no).header in
     omega (arith, lift_is img h, h.lift)
 
-few_of : (outcome : Outcome ℕ) → ((n : ℕ) → outcome ≡ returns n → n ≤ 4096) → (t : Checked) → outcome_of t ≡ outcome → WithinCount t
-unfolding outcome_of
-few_of outcome f (Accepted n) e = f n (sym e)
-few_of outcome f (Refused n) e = tt
+-- an answer whose number, where it has one, fits
+abbrev pub Fits : Result ℕ Refusal → Type 0
+Fits answered = IfOk answered (λ n. n < 9223372036854775808)
 
-pub check_within : (img : List ℕ) (t : Checked) → outcome_of t ≡ check img → WithinCount t
-check_within img t e = few_of (check img) (check_few img) t e
+pub fits_of : (o : Outcome ℕ) (m : ℕ) → m < 9223372036854775808 → ((n : ℕ) → o ≡ returns n → n ≤ m) → (r : Result ℕ Refusal) → outcome_of r ≡ o → Fits r
+fits_of o m h f (Ok n) e = omega (arith, f n (sym e))
+fits_of o m h f (Err refusal) e = tt
 
-pub lift_within : (img : List ℕ) (t : Checked) → outcome_of t ≡ lift img → WithinCount t
-lift_within img t e = few_of (lift img) (lift_few img) t e
+pub check_fits : (img : List ℕ) (r : Result ℕ Refusal) → outcome_of r ≡ check img → Fits r
+check_fits img r e = fits_of (check img) 4096 (omega arith) (check_few img) r e
+
+pub lift_fits : (img : List ℕ) (r : Result ℕ Refusal) → outcome_of r ≡ lift img → Fits r
+lift_fits img r e = fits_of (lift img) 4096 (omega arith) (lift_few img) r e
+
+pub count_fits : (img : List ℕ) → All Byte img → (rectangle : Rectangle) (r : Result ℕ Refusal) → outcome_of r ≡ count img rectangle → Fits r
+count_fits img a rectangle r e = fits_of (count img rectangle) 4096 (omega arith) (count_few img a rectangle) r e
+
+pub list_fits : (img : List ℕ) → All Byte img → (rectangle : Rectangle) (buffer : List ℕ) (r : Result ℕ Refusal) → outcome_of r ≡ listing img rectangle buffer → Fits r
+list_fits img a rectangle buffer r e = fits_of (listing img rectangle buffer) 4096 (omega arith) (list_few img a rectangle buffer) r e
 
 -- a repair alters at most nine numbers of the header, and two of each page
 page_places_lem : (pages : List ℕ) → length (flat_map page_places pages) ≡ 2 * length pages
@@ -71,7 +79,7 @@ unfolding flat_map page_places
 page_places_lem [] = refl
 page_places_lem (p ∷ ps) = omega (arith, page_places_lem ps)
 
-pub altered_few : (img buffer : List ℕ) (n : ℕ) → repair img buffer ≡ returns n → n ≤ 9 + 2 * (length img / 64)
+altered_few : (img buffer : List ℕ) (n : ℕ) → repair img buffer ≡ returns n → n ≤ 9 + 2 * (length img / 64)
 unfolding repair differing number_places
 altered_few img buffer n e =
     let pages = numbers_from 1 (length img / 64 - 1) in
@@ -85,6 +93,9 @@ altered_few img buffer n e =
       page_places_lem pages,
       length-numbers 1 (length img / 64 - 1),
     )
+
+pub repair_fits : (img buffer : List ℕ) → length img < 9223372036854775808 → (r : Result ℕ Refusal) → outcome_of r ≡ repair img buffer → Fits r
+repair_fits img buffer h r e = fits_of (repair img buffer) (9 + 2 * (length img / 64)) (omega arith) (altered_few img buffer) r e
 
 -- nine places
 pub nine : (rank : ℕ) (pages : List ℕ) → length pages ≡ 8

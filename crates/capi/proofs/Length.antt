@@ -17,15 +17,16 @@ use Rattle.format.proofs.Questions.{none_of_yes, yes_of_none}
 use Rattle.format.proofs.Jobs.{of_writable, yes_of_returns}
 use Rattle.format.proofs.Members.{woven_fits}
 use Rattle.format.proofs.Bounds.{page_bound}
-use Rattle.writer.specs.Outcomes.{WrittenKeys, WrittenList, outcome_of, pairs_in}
-use Rattle.writer.specs.declared.Written.{Written}
-use Rattle.writer.specs.declared.Written.TheVariants.{Length, Refused}
+use Rattle.std.specs.Prelude.{Result, Ok, Err}
+use Rattle.format.specs.Refusal.{outcome_of}
+use Rattle.format.specs.declared.refusal.Refusal.{Refusal}
+use Rattle.writer.specs.Outcomes.{WrittenKeys, WrittenList, pairs_in}
+use Rattle.capi.proofs.Answers.{Fits}
 use Rattle.edit.specs.declared.Change.{Change}
 use Rattle.edit.specs.Edit.{changed_image, edit}
 use Rattle.edit.specs.Outcomes.{EditedRight}
 use Rattle.edit.proofs.Edits.{edit_laws}
 use Rattle.capi.specs.Encoding.{EditedToC, WrittenToC, encoded}
-use Rattle.capi.specs.Small.{WithinBound}
 
 -- a length that the writer returns is within format's bound
 keys_small : (lift : ℕ) (keys : List ℕ) → All (λ key. key < 2 ^ 32) keys → (buffer : List ℕ) (n : ℕ) → write_keys (lift_question lift) lift keys buffer ≡ returns n → n ≤ 24640
@@ -37,17 +38,17 @@ keys_small lift keys fits buffer n e =
     omega (arith, same, (page_bound.of_list lift keys fits q.0 q.1).size)
 
 -- so is the one that its answer holds
-pub keys_within : (lift : ℕ) (keys : List ℕ) → All (λ key. key < 2 ^ 32) keys → (buffer : List ℕ) (t : Written) (buffer' : List ℕ) → WrittenKeys (lift_question lift) lift keys buffer t buffer' → WithinBound t
-keys_within lift keys fits buffer (Length n) buffer' w = keys_small lift keys fits buffer n (sym w.returned)
-keys_within lift keys fits buffer (Refused n) buffer' w = tt
+pub keys_within : (lift : ℕ) (keys : List ℕ) → All (λ key. key < 2 ^ 32) keys → (buffer : List ℕ) (t : Result ℕ Refusal) (buffer' : List ℕ) → WrittenKeys (lift_question lift) lift keys buffer t buffer' → Fits t
+keys_within lift keys fits buffer (Ok n) buffer' w = omega (arith, keys_small lift keys fits buffer n (sym w.returned))
+keys_within lift keys fits buffer (Err refusal) buffer' w = tt
 
 -- and to the lent list
-pub within : (lift : ℕ) (list : List Admission) (buffer : List ℕ) (t : Written) (buffer' : List ℕ) → WrittenList lift list buffer t buffer' → WithinBound t
+pub within : (lift : ℕ) (list : List Admission) (buffer : List ℕ) (t : Result ℕ Refusal) (buffer' : List ℕ) → WrittenList lift list buffer t buffer' → Fits t
 unfolding write buffer_after_write
 within lift list buffer t buffer' w = keys_within lift (woven (pairs_in list)) (woven_fits (pairs_in list)) buffer t buffer' (record { returned = w.returned; bytes = w.bytes })
 
 -- what the writer answers and leaves in the buffer, as C gets it
-pub to_c : (lift : ℕ) (list : List Admission) (buffer : List ℕ) (t : Written) (r : ℤ) (buffer' : List ℕ) → WrittenList lift list buffer t buffer' → r ≡ encoded (outcome_of t) → WrittenToC lift list buffer r buffer'
+pub to_c : (lift : ℕ) (list : List Admission) (buffer : List ℕ) (t : Result ℕ Refusal) (r : ℤ) (buffer' : List ℕ) → WrittenList lift list buffer t buffer' → r ≡ encoded (outcome_of t) → WrittenToC lift list buffer r buffer'
 to_c lift list buffer t r buffer' w e = record { returned = e ∙ ap encoded w.returned; bytes = w.bytes }
 
 -- ---- an edit
@@ -60,12 +61,12 @@ edit_small change img records holder slot image' records' bytes small n e =
     let c = edit_laws.changed change img records holder slot _ _ d in
     omega (arith, (page_bound.of_image _ c.accepted).size, (yes_of_returns _ (length (changed_image change img (key_of holder slot))) n e).1)
 
-pub edit_within : (change : Change) (img records : List ℕ) (holder slot : ℕ) (image' records' : List ℕ) → All Byte img → Admissible (holder, slot) → (t : Written) (image'' records'' : List ℕ)
-    → EditedRight change img records holder slot image' records' t image'' records'' → WithinBound t
-edit_within change img records holder slot image' records' bytes small (Length n) image'' records'' d = edit_small change img records holder slot image' records' bytes small n (sym d.returned)
-edit_within change img records holder slot image' records' bytes small (Refused n) image'' records'' d = tt
+pub edit_within : (change : Change) (img records : List ℕ) (holder slot : ℕ) (image' records' : List ℕ) → All Byte img → Admissible (holder, slot) → (t : Result ℕ Refusal) (image'' records'' : List ℕ)
+    → EditedRight change img records holder slot image' records' t image'' records'' → Fits t
+edit_within change img records holder slot image' records' bytes small (Ok n) image'' records'' d = omega (arith, edit_small change img records holder slot image' records' bytes small n (sym d.returned))
+edit_within change img records holder slot image' records' bytes small (Err refusal) image'' records'' d = tt
 
 -- what an edit answers and leaves in the outputs, as C gets it
-pub edit_to_c : (change : Change) (img records : List ℕ) (holder slot : ℕ) (image' records' : List ℕ) (t : Written) (image'' records'' : List ℕ) (r : ℤ)
+pub edit_to_c : (change : Change) (img records : List ℕ) (holder slot : ℕ) (image' records' : List ℕ) (t : Result ℕ Refusal) (image'' records'' : List ℕ) (r : ℤ)
     → EditedRight change img records holder slot image' records' t image'' records'' → r ≡ encoded (outcome_of t) → EditedToC change img records holder slot image' records' r image'' records''
 edit_to_c change img records holder slot image' records' t image'' records'' r d e = record { returned = e ∙ ap encoded d.returned; image = d.image; recorded = d.recorded }

@@ -1,48 +1,44 @@
 // The C interface, as include/lpt.h declares it: an answer of 0 or more, or -n where question n got a no.
 #![tactic(auto)]
 
-ghost use Rattle.std.specs.Prelude.{◌≡◌, ◌∷◌, ◌<◌, pos, neg_ℤ};
+ghost use Rattle.std.specs.Prelude.{◌≡◌, ◌∷◌, ◌<◌, IfOk, pos, neg_ℤ};
 ghost use Rattle.format.specs.Key.{key_of, holder_of, slot_of};
 ghost use Rattle.format.specs.Writer;
 ghost use Rattle.format.specs.Answer;
 ghost use Rattle.format.specs.Scan;
-ghost use Rattle.checker.specs.Outcomes;
+ghost use Rattle.format.specs.Refusal.{number_of, outcome_of};
 ghost use Rattle.paged_lookup.specs.Outcomes.{lookup_outcome};
 ghost use Rattle.paged_lookup.specs.Paged.{paged_lookup};
-ghost use Rattle.writer.specs.Outcomes.{outcome_of};
 ghost use Rattle.capi.specs.Encoding.{encoded, encoded_admission, encoded_lookup, lookup_buffer, encoded_find, rectangle_of, WrittenToC, EditedToC};
 ghost use Rattle.edit.specs.declared.Change.{Change};
 ghost use Rattle.repair.specs.Repair;
-ghost use Rattle.capi.specs.Small.{WithinBound, WithinCount};
 
-use checker::Checked;
-use format::{Admission, Range, Rectangle};
-use gate::Scanned;
-use paged_lookup::{Found, Presence};
-use query::{ByRank, Members};
-use repair::Repaired;
-use writer::Written;
+use format::{Admission, Range, Rectangle, Refusal};
+use paged_lookup::Found;
 
 // The answer of a question that got a no.
-fn refusal(n: u8) -> i64
-    ensures { result ≡ neg_ℤ (pos n) }
+fn refused(refusal: Refusal) -> i64
+    ensures { result ≡ neg_ℤ (pos (number_of refusal)) }
 {
-    0 - n as i64
+    0 - refusal.number() as i64
 }
 
 // The answer of a job that returns a number.
-fn answer(n: usize) -> i64
-    requires { n < 9223372036854775808 }
-    ensures { result ≡ pos n }
+fn answer(answered: Result<usize, Refusal>) -> i64
+    requires { IfOk answered (λ n. n < 9223372036854775808) }
+    ensures { result ≡ encoded (outcome_of answered) }
 {
-    n as i64
+    match answered {
+        Ok(n) => n as i64,
+        Err(refusal) => refused(refusal),
+    }
 }
 
 // An admission in one number.
 fn admission(a: Admission) -> i64
     ensures { result ≡ encoded_admission (a.holder, a.slot) }
 {
-    answer((a.holder as usize) * 65536 + a.slot as usize)
+    (a.holder as i64) * 65536 + a.slot as i64
 }
 
 fn rectangle_of(h0: u16, h1: u16, s0: u16, s1: u16) -> Rectangle
@@ -54,33 +50,11 @@ fn rectangle_of(h0: u16, h1: u16, s0: u16, s1: u16) -> Rectangle
     }
 }
 
-// The answer of the writer, or of an edit.
-fn written(answered: Written) -> i64
-    requires { WithinBound answered }
-    ensures { result ≡ encoded (outcome_of answered) }
-{
-    match answered {
-        Written::Length(n) => answer(n),
-        Written::Refused(n) => refusal(n),
-    }
-}
-
-// The checker's answer.
-fn checked(answered: Checked) -> i64
-    requires { WithinCount answered }
-    ensures { result ≡ encoded (Outcomes.outcome_of answered) }
-{
-    match answered {
-        Checked::Accepted(n) => answer(n),
-        Checked::Refused(n) => refusal(n),
-    }
-}
-
 #[unsafe(no_mangle)]
 pub extern "C" fn lpt_key(holder: u16, slot: u16) -> i64
     ensures { result ≡ pos (key_of holder slot) }
 {
-    answer(zorder::weave(holder, slot) as usize)
+    zorder::weave(holder, slot) as i64
 }
 
 #[unsafe(no_mangle)]
@@ -94,28 +68,28 @@ pub extern "C" fn lpt_admission_of(key: u32) -> i64
 pub extern "C" fn lpt_write(list: &[Admission], lift: u32, out: &mut [u8]) -> i64
     ensures { WrittenToC lift list.now out.old result out.new }
 {
-    written(writer::write(list, lift, out))
+    answer(writer::write(list, lift, out))
 }
 
 #[unsafe(no_mangle)]
 pub extern "C" fn lpt_write_keys(keys: &[u32], lift: u32, out: &mut [u8]) -> i64
     ensures { (result ≡ encoded (Writer.write_keys (Writer.lift_question lift) lift keys.now out.old)) × (out.new ≡ Writer.buffer_after_write_keys (Writer.lift_question lift) lift keys.now out.old) }
 {
-    written(writer::write_keys(keys, lift, out))
+    answer(writer::write_keys(keys, lift, out))
 }
 
 #[unsafe(no_mangle)]
 pub extern "C" fn lpt_check(img: &[u8]) -> i64
     ensures { result ≡ encoded (Answer.check img.now) }
 {
-    checked(checker::check(img))
+    answer(checker::check(img))
 }
 
 #[unsafe(no_mangle)]
 pub extern "C" fn lpt_lift(img: &[u8]) -> i64
     ensures { result ≡ encoded (Answer.lift img.now) }
 {
-    checked(checker::lift(img))
+    answer(checker::lift(img))
 }
 
 // The rank and the page numbers in the nine places.
@@ -128,23 +102,19 @@ fn fill(out: &mut [u32; 9], rank: u32, pages: [u32; 8])
 }
 
 // What a lookup found: 1 with the nine places filled, 0 with the first filled, or a refusal.
-fn looked_up(found: Found, out: &mut [u32; 9]) -> i64
-    ensures { (result ≡ encoded_lookup (lookup_outcome found.answer found.pages)) × (out.new ≡ lookup_buffer (lookup_outcome found.answer found.pages) out.old) }
+fn looked_up(answered: Result<Found, Refusal>, out: &mut [u32; 9]) -> i64
+    ensures { (result ≡ encoded_lookup (lookup_outcome answered)) × (out.new ≡ lookup_buffer (lookup_outcome answered) out.old) }
 {
-    let presence = found.answer;
-    match presence {
-        Presence::Listed(rank) => {
-            let pages = found.pages;
+    match answered {
+        Ok(Found::Listed { rank, pages }) => {
             fill(out, rank, pages);
-            return 1;
+            1
         }
-        Presence::Absent(smaller) => {
+        Ok(Found::Absent { smaller }) => {
             out[0] = smaller;
-            return 0;
+            0
         }
-        Presence::Refused(n) => {
-            return refusal(n);
-        }
+        Err(refusal) => refused(refusal),
     }
 }
 
@@ -166,20 +136,14 @@ pub extern "C" fn lpt_lookup8(img: &[u8], holder: u16, slot: u16, out: &mut [u32
 pub extern "C" fn lpt_count(img: &[u8], h0: u16, h1: u16, s0: u16, s1: u16) -> i64
     ensures { result ≡ encoded (Answer.count img.now (rectangle_of h0 h1 s0 s1)) }
 {
-    match query::count(img, rectangle_of(h0, h1, s0, s1)) {
-        Members::Count(n) => answer(n),
-        Members::Refused(n) => refusal(n),
-    }
+    answer(query::count(img, rectangle_of(h0, h1, s0, s1)))
 }
 
 #[unsafe(no_mangle)]
 pub extern "C" fn lpt_list(img: &[u8], h0: u16, h1: u16, s0: u16, s1: u16, keys: &mut [u32]) -> i64
     ensures { (result ≡ encoded (Answer.listing img.now (rectangle_of h0 h1 s0 s1) keys.old)) × (keys.new ≡ Answer.buffer_after_listing img.now (rectangle_of h0 h1 s0 s1) keys.old) }
 {
-    match query::list(img, rectangle_of(h0, h1, s0, s1), keys) {
-        Members::Count(n) => answer(n),
-        Members::Refused(n) => refusal(n),
-    }
+    answer(query::list(img, rectangle_of(h0, h1, s0, s1), keys))
 }
 
 #[unsafe(no_mangle)]
@@ -187,8 +151,8 @@ pub extern "C" fn lpt_find(img: &[u8], rank: u32) -> i64
     ensures { result ≡ encoded_find (Answer.find img.now rank) }
 {
     match query::find(img, rank) {
-        ByRank::At(a) => admission(a),
-        ByRank::Refused(n) => refusal(n),
+        Ok(a) => admission(a),
+        Err(refusal) => refused(refusal),
     }
 }
 
@@ -206,8 +170,8 @@ pub extern "C" fn lpt_scan(
     ensures { (result ≡ encoded (Scan.scan lift img.now rec.old lane holder slot time lockout)) × (rec.new ≡ Scan.records_after_scan lift img.now rec.old lane holder slot time lockout) }
 {
     match gate::scan(img, rec, holder, slot, time, lockout, lane, lift) {
-        Scanned::Opened(rank) => answer(rank as usize),
-        Scanned::Refused(n) => refusal(n),
+        Ok(rank) => rank as i64,
+        Err(refusal) => refused(refusal),
     }
 }
 
@@ -222,7 +186,7 @@ pub extern "C" fn lpt_add(
 ) -> i64
     ensures { EditedToC Change.Add img.now rec.now holder slot out.old out_rec.old result out.new out_rec.new }
 {
-    written(edit::add(img, rec, holder, slot, out, out_rec))
+    answer(edit::add(img, rec, holder, slot, out, out_rec))
 }
 
 #[unsafe(no_mangle)]
@@ -236,15 +200,12 @@ pub extern "C" fn lpt_withdraw(
 ) -> i64
     ensures { EditedToC Change.Withdraw img.now rec.now holder slot out.old out_rec.old result out.new out_rec.new }
 {
-    written(edit::withdraw(img, rec, holder, slot, out, out_rec))
+    answer(edit::withdraw(img, rec, holder, slot, out, out_rec))
 }
 
 #[unsafe(no_mangle)]
 pub extern "C" fn lpt_repair(img: &[u8], out: &mut [u8]) -> i64
     ensures { (result ≡ encoded (Repair.repair img.now out.old)) × (out.new ≡ Repair.buffer_after_repair img.now out.old) }
 {
-    match repair::repair(img, out) {
-        Repaired::Altered(n) => answer(n),
-        Repaired::Refused(n) => refusal(n),
-    }
+    answer(repair::repair(img, out))
 }

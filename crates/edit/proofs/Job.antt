@@ -2,7 +2,7 @@
 -- Assumes nothing.
 use mathlib.Core.Path.{◌≡◌, refl, sym, ap, ap₂, ◌∙◌}
 use mathlib.Core.Bool.{Bool, true, false}
-use mathlib.Core.Option.{Option}
+use mathlib.Core.Option.{Option, none, some}
 use mathlib.Core.List.{List, [], ◌∷◌, ◌++◌}
 use Prim.Native.Nat.{ℕ, ◌-◌, ◌≤◌, ◌<◌}
 use native.Mathlib.Omega.{arith}
@@ -25,11 +25,13 @@ use Rattle.format.proofs.Keys.{key_of_small}
 use Rattle.format.proofs.LookupAnswers.{image_accepted, image_yes, of_absent, of_listed}
 use Rattle.format.proofs.Members.{ascending_of, rank_le}
 use Rattle.format.proofs.Questions.{after_no, after_yes, asked_yes, yes_of_none}
-use Rattle.header.specs.Refusal.{refusal_of}
-use Rattle.header.proofs.Refusals.{none_refused, passed_first, refused_first, refused_outcome}
-use Rattle.writer.specs.declared.Written.{Written}
-use Rattle.writer.specs.declared.Written.TheVariants.{Length, Refused}
-use Rattle.writer.specs.Outcomes.{WrittenKeys, outcome_of}
+use Rattle.format.specs.Refusal.{number_of, outcome_of}
+use Rattle.format.specs.declared.refusal.Refusal.{Refusal}
+use Rattle.std.specs.Prelude.{Result, Ok, Err, is_some}
+use Rattle.paged_lookup.specs.declared.Found.{Found}
+use Rattle.paged_lookup.specs.declared.Found.TheVariants.{Absent, Listed}
+use Rattle.paged_lookup.specs.Outcomes.{answer_of, rank_in as found_rank, smaller_in}
+use Rattle.writer.specs.Outcomes.{WrittenKeys}
 use Rattle.edit.specs.declared.Change.{Change}
 use Rattle.edit.specs.declared.Change.TheVariants.{Add, Withdraw}
 use Rattle.edit.specs.Edit.{can_change, change_questions, changed_count, changed_image, changed_keys, changed_records, edit, edit_questions, image_after_edit, records_after_edit}
@@ -54,7 +56,7 @@ keys_withdrawn change img key rank places n is c k =
     rw (is, withdrawn_at key (keys_of img) (facts img d.accepted).keys.asc (is_listed img key d.can), ← d.rank_is) k
 
 -- the writer's answer for the first places is that for the changed keys
-pub written_changed : (lift : ℕ) (keys places : List ℕ) (n : ℕ) (out : List ℕ) (w : Written) (out' : List ℕ) (given : ℕ) → given ≡ lift → KeysIn keys places n
+pub written_changed : (lift : ℕ) (keys places : List ℕ) (n : ℕ) (out : List ℕ) (w : Result ℕ Refusal) (out' : List ℕ) (given : ℕ) → given ≡ lift → KeysIn keys places n
     → WrittenKeys (either_question given) given (take (n - 0) places) out w out' → WrittenKeys (either_question lift) lift keys out w out'
 written_changed lift keys places n out w out' given e k d =
     let z : n - 0 ≡ n = omega arith in
@@ -86,21 +88,20 @@ module _ (change : Change) (img records : List ℕ) (key : ℕ) (image' records'
   abbrev room_for : Question
   room_for = (17, leb size' (length image'))
 
-  module _ (is-in : Bool) (rank : ℕ) (at : Located img key is-in rank) (n : ℕ) (count : n ≡ key_count img) (refusal : ℕ)
-      (first : refusal_of refusal ≡ first_no (change_questions change n (length records) is-in (length records'))) where
-    asked : refusal_of refusal ≡ first_no (change_questions change (key_count img) (length records) (is_in key (keys_of img)) (length records'))
-    asked = first ∙ ap₂ (λ (m : ℕ) (t : Bool). first_no (change_questions change m (length records) t (length records'))) count at.listed_is
+  module _ (is-in : Bool) (rank : ℕ) (at : Located img key is-in rank) (n : ℕ) (count : n ≡ key_count img) where
+    asked : (o : Option ℕ) → o ≡ first_no (change_questions change n (length records) is-in (length records')) → o ≡ first_no (change_questions change (key_count img) (length records) (is_in key (keys_of img)) (length records'))
+    asked o first = first ∙ ap₂ (λ (m : ℕ) (t : Bool). first_no (change_questions change m (length records) t (length records'))) count at.listed_is
 
     -- 21, 30, 14, or 17 of the records' output
-    pub key_refused : (refusal ≡ 0 → ⊥) → KeyEdited change img records key image' records' (Refused refusal) image' records'
-    unfolding edit_questions settle filled
-    key_refused ne =
-        record { returned = refused_outcome refusal size' ne ∙ ap (λ (o : Option ℕ). outcome o size') (refused_first refusal _ asked (room_for ∷ []) ne); image = refl; recorded = refl }
+    pub key_refused : (r : Refusal) → some (number_of r) ≡ first_no (change_questions change n (length records) is-in (length records')) → KeyEdited change img records key image' records' (Err r) image' records'
+    unfolding edit_questions settle outcome filled
+    key_refused r first =
+        record { returned = ap (λ (o : Option ℕ). outcome o size') (sym (after_no _ (room_for ∷ []) (number_of r) (sym (asked _ first)))); image = refl; recorded = refl }
 
     -- all of these got a yes
-    module _ (passed : refusal ≡ 0) where
+    module _ (passed : none ≡ first_no (change_questions change n (length records) is-in (length records'))) where
       yeses : All Yes (change_questions change (key_count img) (length records) (is_in key (keys_of img)) (length records'))
-      yeses = yes_of_none _ (none_refused refusal _ asked passed)
+      yeses = yes_of_none _ (sym (asked _ passed))
 
       size_is : length records ≡ records_length (key_count img)
       unfolding change_questions
@@ -131,7 +132,7 @@ module _ (change : Change) (img records : List ℕ) (key : ℕ) (image' records'
       -- the writer's answer is the edit's
       edit-is : settle (edit_questions change img records key image' records') size' ≡ settle (room_for ∷ []) size'
       unfolding edit_questions settle
-      edit-is = ap (λ (o : Option ℕ). outcome o size') (passed_first refusal _ asked (room_for ∷ []) passed)
+      edit-is = ap (λ (o : Option ℕ). outcome o size') (after_yes _ (room_for ∷ []) (sym (asked _ passed)))
 
       writer-is : write_keys (either_question (lift_of img)) (lift_of img) keys' image' ≡ settle (room_for ∷ []) size'
       unfolding write_keys settle room_question changed_image either_question
@@ -140,7 +141,7 @@ module _ (change : Change) (img records : List ℕ) (key : ℕ) (image' records'
           let w = list_writable keys' (omega (arith, changed_length change img at.accepted key can, few)) (ascending_of keys' (asc_changed key (keys_of img) f.keys.asc change)) in
           ap (λ (o : Option ℕ). outcome o (length (image_of (lift_of img) keys'))) (asked_yes 35 _ _ (le-leb (lift_of img) 999 f.lift) ∙ after_yes (list_questions keys') _ w)
 
-      module _ (w : Written) (image'' : List ℕ) (d : WrittenKeys (either_question (lift_of img)) (lift_of img) keys' image' w image'') where
+      module _ (w : Result ℕ Refusal) (image'' : List ℕ) (d : WrittenKeys (either_question (lift_of img)) (lift_of img) keys' image' w image'') where
         outcome-is : outcome_of w ≡ settle (edit_questions change img records key image' records') size'
         outcome-is = d.returned ∙ writer-is ∙ sym edit-is
 
@@ -148,26 +149,26 @@ module _ (change : Change) (img records : List ℕ) (key : ℕ) (image' records'
         unfolding buffer_after_write_keys changed_image
         bytes-are o e = d.bytes ∙ ap (λ (q : Outcome ℕ). filled q (image_of (lift_of img) keys') image') (sym d.returned ∙ e)
 
-        -- 17 of the image's output
-        pub key_short : (q : ℕ) → w ≡ Refused q → KeyEdited change img records key image' records' (Refused q) image'' records'
-        unfolding filled
-        key_short q e = record { returned = sym (ap outcome_of e) ∙ outcome-is; image = bytes-are (refused q) (ap outcome_of e); recorded = refl }
+      -- 17 of the image's output
+      pub key_short : (r : Refusal) (image'' : List ℕ) → WrittenKeys (either_question (lift_of img)) (lift_of img) keys' image' (Err r) image'' → KeyEdited change img records key image' records' (Err r) image'' records'
+      unfolding filled
+      key_short r image'' d = record { returned = outcome-is (Err r) image'' d; image = bytes-are (Err r) image'' d (refused (number_of r)) refl; recorded = refl }
 
-        -- the image is written, and the records are moved
-        pub key_done : (size : ℕ) → w ≡ Length size → (records'' : List ℕ) → records'' ≡ records_at change rank records ++ drop (changed_count change (length records)) records'
-            → KeyEdited change img records key image' records' (Length size) image'' records''
-        unfolding filled
-        key_done size e records'' r =
-            let (same, count) = records_are change img records at.accepted size_is key can in
-            record {
-              returned = sym (ap outcome_of e) ∙ outcome-is;
-              image = bytes-are (returns size) (ap outcome_of e);
-              recorded = r ∙ moved same count;
-            }
-          where
-            moved : changed_records change img records key ≡ records_at change (rank_in (keys_of img) key) records → length (changed_records change img records key) ≡ changed_count change (length records)
-                → records_at change rank records ++ drop (changed_count change (length records)) records' ≡ changed_records change img records key ++ drop (length (changed_records change img records key)) records'
-            moved same count = ap (λ (k : ℕ). records_at change k records ++ drop (changed_count change (length records)) records') at.rank_is ∙ (λ i. sym same i ++ drop (sym count i) records')
+      -- the image is written, and the records are moved
+      pub key_done : (size : ℕ) (image'' : List ℕ) → WrittenKeys (either_question (lift_of img)) (lift_of img) keys' image' (Ok size) image'' → (records'' : List ℕ)
+          → records'' ≡ records_at change rank records ++ drop (changed_count change (length records)) records' → KeyEdited change img records key image' records' (Ok size) image'' records''
+      unfolding filled
+      key_done size image'' d records'' r =
+          let (same, count) = records_are change img records at.accepted size_is key can in
+          record {
+            returned = outcome-is (Ok size) image'' d;
+            image = bytes-are (Ok size) image'' d (returns size) refl;
+            recorded = r ∙ moved same count;
+          }
+        where
+          moved : changed_records change img records key ≡ records_at change (rank_in (keys_of img) key) records → length (changed_records change img records key) ≡ changed_count change (length records)
+              → records_at change rank records ++ drop (changed_count change (length records)) records' ≡ changed_records change img records key ++ drop (length (changed_records change img records key)) records'
+          moved same count = ap (λ (k : ℕ). records_at change k records ++ drop (changed_count change (length records)) records') at.rank_is ∙ (λ i. sym same i ++ drop (sym count i) records')
 
 -- ---- the job, from lookup's answer
 
@@ -179,11 +180,11 @@ module _ (change : Change) (img records : List ℕ) (holder slot : ℕ) (image' 
   size = length (changed_image change img key)
 
   -- a refused image
-  pub edit_refused : (n : ℕ) → lookup img holder slot ≡ refused n → EditedRight change img records holder slot image' records' (Refused n) image' records'
+  pub edit_refused : (r : Refusal) → refused (number_of r) ≡ lookup img holder slot → EditedRight change img records holder slot image' records' (Err r) image' records'
   unfolding lookup edit settle outcome
-  edit_refused n e = right (sym (ap (λ (o : Option ℕ). outcome o size) (after_no (image_questions img) _ n (no_of_refused (image_questions img) (lookup_answer img key) n e))))
+  edit_refused r e = right (sym (ap (λ (o : Option ℕ). outcome o size) (after_no (image_questions img) _ (number_of r) (no_of_refused (image_questions img) (lookup_answer img key) (number_of r) (sym e)))))
     where
-      right : refused n ≡ edit change img records holder slot image' records' → EditedRight change img records holder slot image' records' (Refused n) image' records'
+      right : refused (number_of r) ≡ edit change img records holder slot image' records' → EditedRight change img records holder slot image' records' (Err r) image' records'
       right d =
           record {
             returned = d;
@@ -192,12 +193,12 @@ module _ (change : Change) (img records : List ℕ) (holder slot : ℕ) (image' 
           }
 
   -- an accepted one, and the edit by key
-  module _ (answer : LookupAnswer) (e : lookup img holder slot ≡ returns answer) where
+  module _ (answer : LookupAnswer) (e : returns answer ≡ lookup img holder slot) where
     edit-asked : edit change img records holder slot image' records' ≡ settle (edit_questions change img records key image' records') size
     unfolding edit settle
-    edit-asked = ap (λ (o : Option ℕ). outcome o size) (after_yes (image_questions img) _ (image_yes img holder slot answer e))
+    edit-asked = ap (λ (o : Option ℕ). outcome o size) (after_yes (image_questions img) _ (image_yes img holder slot answer (sym e)))
 
-    pub edit-by_key : (n : ℕ) → n ≡ key → (r : Written) (image'' records'' : List ℕ) → KeyEdited change img records n image' records' r image'' records'' → EditedRight change img records holder slot image' records' r image'' records''
+    pub edit-by_key : (n : ℕ) → n ≡ key → (r : Result ℕ Refusal) (image'' records'' : List ℕ) → KeyEdited change img records n image' records' r image'' records'' → EditedRight change img records holder slot image' records' r image'' records''
     unfolding image_after_edit records_after_edit
     edit-by_key n key-is r image'' records'' made =
         let k : KeyEdited change img records key image' records' r image'' records'' = rw key-is at made in
@@ -213,12 +214,10 @@ module _ (img : List ℕ) (holder slot : ℕ) (bytes : All Byte img) (key : ℕ)
   small : key < 4294967296
   small = rw key-is (key_of_small holder slot)
 
-  pub located_absent : (smaller : ℕ) → lookup img holder slot ≡ returns (absent smaller) → Located img key false smaller
-  located_absent smaller e =
-      let o = of_absent img holder slot smaller e in
-      record { accepted = image_accepted img holder slot (absent smaller) e bytes; small = small; listed_is = rw key-is (sym o.0); rank_is = rw key-is (sym o.1) }
-
-  pub located_listed : (rank : ℕ) (pages : List ℕ) → lookup img holder slot ≡ returns (listed rank pages) → Located img key true rank
-  located_listed rank pages e =
-      let o = of_listed img holder slot rank pages e in
-      record { accepted = image_accepted img holder slot (listed rank pages) e bytes; small = small; listed_is = rw key-is (sym o.0); rank_is = rw key-is (sym o.1) }
+  pub located : (found : Found) → returns (answer_of found) ≡ lookup img holder slot → Located img key (is_some (found_rank found)) (smaller_in found)
+  located (Absent smaller) e =
+      let o = of_absent img holder slot smaller (sym e) in
+      record { accepted = image_accepted img holder slot (absent smaller) (sym e) bytes; small = small; listed_is = rw key-is (sym o.0); rank_is = rw key-is (sym o.1) }
+  located (Listed rank pages) e =
+      let o = of_listed img holder slot rank pages (sym e) in
+      record { accepted = image_accepted img holder slot (listed rank pages) (sym e) bytes; small = small; listed_is = rw key-is (sym o.0); rank_is = rw key-is (sym o.1) }

@@ -1,19 +1,19 @@
--- What the edit's functions promise: the answer, which is one of the writer's, and the outputs.
+-- What the edit's functions promise: the answer and the outputs.
 -- Assumes nothing.
-use Rattle.std.specs.Prelude.{◌≡◌, Bool, true, List, ℕ, ◌≤◌, ◌<◌, length, take}
+use Rattle.std.specs.Prelude.{◌≡◌, Result, Bool, true, List, ℕ, ◌≤◌, ◌<◌, length, take}
 use Rattle.format.specs.Seq.{delete_at, insert_at, is_in, rank_in}
 use Rattle.format.specs.Image.{key_count, keys_of}
 use Rattle.format.specs.Question.{filled, settle}
 use Rattle.format.specs.Scan.{records_length}
 use Rattle.format.specs.Exact.{Accepted}
-use Rattle.writer.specs.declared.Written.{Written}
-use Rattle.writer.specs.Outcomes.{outcome_of}
+use Rattle.format.specs.Refusal.{outcome_of}
+use Rattle.format.specs.declared.refusal.Refusal.{Refusal}
 use Rattle.edit.specs.declared.Change.{Change}
 use Rattle.edit.specs.declared.Change.TheVariants.{Add, Withdraw}
 use Rattle.edit.specs.Edit.{can_change, changed_count, changed_image, changed_records, edit, edit_questions, image_after_edit, records_after_edit}
 
 -- the answer and the two outputs at exit, for an image with its records and the outputs as they were lent
-pub record EditedRight (change : Change) (img records : List ℕ) (holder slot : ℕ) (image' records' : List ℕ) (answer : Written) (image'' records'' : List ℕ) : Type 0 where
+pub record EditedRight (change : Change) (img records : List ℕ) (holder slot : ℕ) (image' records' : List ℕ) (answer : Result ℕ Refusal) (image'' records'' : List ℕ) : Type 0 where
   pub returned : outcome_of answer ≡ edit change img records holder slot image' records'
   pub image : image'' ≡ image_after_edit change img records holder slot image' records'
   pub recorded : records'' ≡ records_after_edit change img records holder slot image' records'
@@ -28,7 +28,7 @@ pub record Located (img : List ℕ) (key : ℕ) (listed : Bool) (rank : ℕ) : T
   pub rank_is : rank ≡ rank_in (keys_of img) key
 
 -- the answer and the two outputs at exit
-pub record KeyEdited (change : Change) (img records : List ℕ) (key : ℕ) (image' records' : List ℕ) (answer : Written) (image'' records'' : List ℕ) : Type 0 where
+pub record KeyEdited (change : Change) (img records : List ℕ) (key : ℕ) (image' records' : List ℕ) (answer : Result ℕ Refusal) (image'' records'' : List ℕ) : Type 0 where
   pub returned : outcome_of answer ≡ settle (edit_questions change img records key image' records') (length (changed_image change img key))
   pub image : image'' ≡ filled (outcome_of answer) (changed_image change img key) image'
   pub recorded : records'' ≡ filled (outcome_of answer) (changed_records change img records key) records'

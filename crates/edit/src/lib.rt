@@ -4,20 +4,20 @@
 mod keys; // keys.rt: the changed list, and its image
 mod records; // records.rt: the changed records
 
-ghost use Rattle.std.specs.Prelude.{◌≡◌, ◌<◌};
+ghost use Rattle.std.specs.Prelude.{◌≡◌, ◌<◌, is_some};
 ghost use Rattle.format.specs.Question.{first_no};
-ghost use Rattle.header.specs.Refusal.{refusal_of};
+ghost use Rattle.format.specs.Refusal.{refusal_of};
+ghost use Rattle.paged_lookup.specs.Outcomes.{rank_in, smaller_in};
 ghost use Rattle.edit.specs.Edit.{can_change, changed_count, few_enough, change_questions};
 ghost use Rattle.edit.specs.Outcomes.{Located, KeyEdited, EditedRight};
 
-use format::LANES;
+use format::{LANES, Refusal};
 use keys::write_changed;
-use paged_lookup::Presence;
+use paged_lookup::Found;
 use records::move_records;
-use writer::Written;
 
 // What is done to the list.
-#[derive(Clone, Copy)]
+#[derive(Clone, Copy, Debug, PartialEq, Eq)]
 pub enum Change {
     Add,
     Withdraw,
@@ -59,9 +59,15 @@ fn changed_count(change: Change, keys: usize) -> usize
     }
 }
 
-// 21, 30, 14 and 17 of the output for the records, of an image with `keys` keys, `records` records, and `places` places for the new ones: the number of the
-// first that gets a no, 0 where none does.
-fn change_refusal(change: Change, keys: usize, records: usize, listed: bool, places: usize) -> u8
+// 21, 30, 14 and 17 of the output for the records, of an image with `keys` keys, `records` records, and `places` places for the new ones: the first that
+// gets a no.
+fn change_refusal(
+    change: Change,
+    keys: usize,
+    records: usize,
+    listed: bool,
+    places: usize,
+) -> Result<(), Refusal>
     requires { keys < 65536 }
     ensures { refusal_of result ≡ first_no (change_questions change keys records listed places) }
 {
@@ -70,53 +76,43 @@ fn change_refusal(change: Change, keys: usize, records: usize, listed: bool, pla
     let few = few_enough(change, keys);
     let room = changed_count(change, keys) + LANES <= places;
     if !length_right {
-        return 21;
+        return Err(Refusal::Records);
     }
     if !can {
-        return 30;
+        return Err(Refusal::Change);
     }
     if !few {
-        return 14;
+        return Err(Refusal::More);
     }
     if !room {
-        return 17;
+        return Err(Refusal::Room);
     }
-    0
+    Ok(())
 }
 
-// The edit by key, after 1 to 13. The image is written first, which asks 17 of its output before any byte is written.
+// The edit by key, after 1 to 13, where lookup found so much. The image is written first, which asks 17 of its output before any byte is written.
 fn edit_at(
     image: &[u8],
     records: &[u32],
     change: Change,
     key: u32,
-    listed: bool,
-    rank: u32,
+    found: Found,
     new_image: &mut [u8],
     new_records: &mut [u32],
-) -> Written
-    requires { Located image.now key listed rank }
+) -> Result<usize, Refusal>
+    requires { Located image.now key (is_some (rank_in found)) (smaller_in found) }
     ensures { KeyEdited change image.now records.now key new_image.old new_records.old result new_image.new new_records.new }
 {
     let keys = header::key_count(image);
-    let refusal = change_refusal(change, keys, records.len(), listed, new_records.len());
-    if refusal != 0 {
-        return Written::Refused(refusal);
-    }
-    let place = rank as usize;
-    let written = write_changed(image, change, key, place, new_image);
-    match written {
-        Written::Refused(n) => {
-            return Written::Refused(n);
-        }
-        Written::Length(n) => {
-            move_records(change, records, keys, place, new_records);
-            return Written::Length(n);
-        }
-    }
+    let listed = found.rank().is_some();
+    change_refusal(change, keys, records.len(), listed, new_records.len())?;
+    let place = found.smaller() as usize;
+    let length = write_changed(image, change, key, place, new_image)?;
+    move_records(change, records, keys, place, new_records);
+    Ok(length)
 }
 
-// The edit: the rank comes from lookup, of an absent admission too.
+// The edit: its place comes from lookup, of an absent admission too.
 fn edit(
     image: &[u8],
     records: &[u32],
@@ -125,41 +121,12 @@ fn edit(
     slot: u16,
     new_image: &mut [u8],
     new_records: &mut [u32],
-) -> Written
+) -> Result<usize, Refusal>
     ensures { EditedRight change image.now records.now holder slot new_image.old new_records.old result new_image.new new_records.new }
 {
     let key = zorder::weave(holder, slot);
-    let found = query::lookup(image, holder, slot);
-    let answer = found.answer;
-    match answer {
-        Presence::Refused(n) => {
-            return Written::Refused(n);
-        }
-        Presence::Absent(rank) => {
-            return edit_at(
-                image,
-                records,
-                change,
-                key,
-                false,
-                rank,
-                new_image,
-                new_records,
-            );
-        }
-        Presence::Listed(rank) => {
-            return edit_at(
-                image,
-                records,
-                change,
-                key,
-                true,
-                rank,
-                new_image,
-                new_records,
-            );
-        }
-    }
+    let found = query::lookup(image, holder, slot)?;
+    edit_at(image, records, change, key, found, new_image, new_records)
 }
 
 // Adds an admission: the new image in the first bytes of `new_image`, and the new records in the first elements of `new_records`. Returns the new image's
@@ -171,7 +138,7 @@ pub fn add(
     slot: u16,
     new_image: &mut [u8],
     new_records: &mut [u32],
-) -> Written
+) -> Result<usize, Refusal>
     ensures { EditedRight Change.Add image.now records.now holder slot new_image.old new_records.old result new_image.new new_records.new }
 {
     edit(
@@ -193,7 +160,7 @@ pub fn withdraw(
     slot: u16,
     new_image: &mut [u8],
     new_records: &mut [u32],
-) -> Written
+) -> Result<usize, Refusal>
     ensures { EditedRight Change.Withdraw image.now records.now holder slot new_image.old new_records.old result new_image.new new_records.new }
 {
     edit(

@@ -21,3 +21,8 @@ lookup_outcome (Err refusal) = refused (number_of refusal)
 abbrev pub rank_in : Found → Option ℕ
 rank_in (Listed rank pages) = Some rank
 rank_in (Absent smaller) = None
+
+-- the number of smaller keys: of a listed admission its rank
+abbrev pub smaller_in : Found → ℕ
+smaller_in (Listed rank pages) = rank
+smaller_in (Absent smaller) = smaller

@@ -8,7 +8,7 @@ mod page;
 ghost use Rattle.std.specs.Prelude.{◌≡◌, true};
 ghost use Rattle.format.specs.Exact.{Accepted};
 ghost use Rattle.paged_lookup.specs.Paged.{paged_answer, paged_lookup};
-ghost use Rattle.paged_lookup.specs.Outcomes.{lookup_outcome, rank_in};
+ghost use Rattle.paged_lookup.specs.Outcomes.{lookup_outcome, rank_in, smaller_in};
 ghost use Rattle.paged_lookup.specs.Way.{HeaderYes};
 
 use band::through;
@@ -34,6 +34,16 @@ impl Found {
         match self {
             Found::Listed { rank, .. } => Some(rank),
             Found::Absent { .. } => None,
+        }
+    }
+
+    // How many listed admissions have a smaller key: of a listed one its rank.
+    pub fn smaller(self) -> u32
+        ensures { result ≡ smaller_in self }
+    {
+        match self {
+            Found::Listed { rank, .. } => rank,
+            Found::Absent { smaller } => smaller,
         }
     }
 }

@@ -8,7 +8,6 @@ use lib.Dec.{leb}
 use borrow.Author.Tests.{eq-eqb, ne_eqb, le-leb, lt-leb}
 use Rattle.format.specs.Question.{Question, first_no}
 use Rattle.format.proofs.Questions.{Past, no_to, yes_to}
-use Rattle.header.specs.Refusal.{refusal_of}
 use Rattle.edit.specs.declared.Change.{Change}
 use Rattle.edit.specs.Edit.{can_change, change_questions, changed_count, few_enough}
 use Rattle.edit.proofs.change_refusal.Goals as goal
@@ -42,26 +41,26 @@ module _ (change : Change) (keys records : ℕ) (listed : Bool) (places : ℕ) w
         past17 n count_is room = yes_to 17 _ _ _ _ past14 (asked_17 n places change keys count_is) (le-leb _ _ room)
 
 pub returns-then-not-length_right : goal.returns-then-not-length_right
-unfolding refusal_of change_questions
+unfolding change_questions
 returns-then-not-length_right c = no_to 21 _ _ _ _ refl refl (ne_eqb _ _ c.if-not-length_right.true)
 
 pub returns-then-not-can : goal.returns-then-not-can
-unfolding refusal_of change_questions
+unfolding change_questions
 returns-then-not-can c = no_to 30 _ _ _ _ (past21 _ _ _ _ _ c.if-not-length_right.false) c.can_change-can.ensures c.if-not-can.true
 
 pub returns-then-not-few : goal.returns-then-not-few
-unfolding refusal_of change_questions
+unfolding change_questions
 returns-then-not-few c =
     no_to 14 _ _ _ _ (past30 _ _ _ _ _ c.if-not-length_right.false _ c.can_change-can.ensures c.if-not-can.false) c.few_enough-few.ensures c.if-not-few.true
 
 pub returns-then-not-room : goal.returns-then-not-room
-unfolding refusal_of change_questions
+unfolding change_questions
 returns-then-not-room c =
     no_to 17 _ _ _ _ (past14 _ _ _ _ _ c.if-not-length_right.false _ c.can_change-can.ensures c.if-not-can.false _ c.few_enough-few.ensures c.if-not-few.false)
     (asked_17 _ c.args.places _ _ c.changed_count.ensures.0) (lt-leb _ c.args.places (omega arith))
 
 pub returns : goal.returns
-unfolding refusal_of change_questions first_no
+unfolding change_questions first_no
 returns c =
     sym
     (past17 _ _ _ _ _ c.if-not-length_right.false _ c.can_change-can.ensures c.if-not-can.false _ c.few_enough-few.ensures c.if-not-few.false _ c.changed_count.ensures.0 c.if-not-room.false)
