@@ -2,10 +2,11 @@
 -- Assumes nothing.
 use mathlib.Core.Path.{◌≡◌, refl, sym, ap, ap₂, ◌∙◌}
 use mathlib.Core.List.{List}
-use Prim.Native.Nat.{ℕ, suc, ◌+◌, ◌-◌, ◌*◌, ◌/◌, ◌^◌, ◌≤◌, ◌<◌}
-use native.Mathlib.Nat.{add-mul, mul_assoc, mul_comm, mul-le-mul_right, pow-le-pow_right, pow-suc}
+use Prim.Native.Nat.{ℕ, zero, suc, ◌+◌, ◌-◌, ◌*◌, ◌/◌, ◌%◌, ◌^◌, ◌≤◌, ◌<◌}
+use native.Mathlib.Nat.{add-mul, mod-eq_of_lt, mul_assoc, mul_comm, mul-le-mul_right, pow-le-pow_right, pow-suc}
 use native.Mathlib.Omega.{arith}
 use lib.ListN.{length, get_or}
+use lib.Pow.{pow-add}
 use Rattle.format.specs.Image.{bands, key_count, keys_of, page_count, page_number, pages_before, prefixes_at}
 use Rattle.format.specs.Question.{out_links_due}
 use Rattle.format.proofs.Levels.{prefixes_keys}
@@ -37,6 +38,13 @@ ranked_start {img} r rank h =
       value = omega arith;
     }
 
+-- four bits a band
+four_bits : (n : ℕ) → 2 ^ (4 * n) ≡ 16 ^ n
+four_bits zero = refl
+four_bits (suc n) =
+    let e : 4 * suc n ≡ 4 * n + 4 = omega arith in
+    ap (2 ^◌) e ∙ pow-add 2 (4 * n) 4 ∙ ap (◌* 16) (four_bits n) ∙ sym (pow-suc 16 n)
+
 module _ {img : List ℕ} {rank link first key unit number : ℕ} (s : Ranked img rank link first key unit number) (h : 0 < number) where
   one-first : page_number img number 0 + page_count img number ≡ first
   one-first = next_first img number (omega arith) ∙ sym s.first_is
@@ -56,6 +64,10 @@ module _ {img : List ℕ} {rank link first key unit number : ℕ} (s : Ranked im
   ranked_fits {bits} b =
       let few : unit ≤ 268435456 = rw s.unit_is (pow-le-pow_right {n = 16} (omega arith) {i = 8 - number} {j = 7} (omega arith)) in
       (omega (arith, mul-le-mul_right unit (let m : bits ≤ 15 = omega arith in m)), few)
+
+  -- the bits at their place in the key
+  pub ranked_turn : (p : ℕ) {bits : ℕ} → bits < 16 → unit ≡ 16 ^ p → bits * 2 ^ (4 * p) % 4294967296 ≡ bits * unit
+  ranked_turn p {bits} b e = ap (λ (x : ℕ). bits * x % 4294967296) (four_bits p ∙ sym e) ∙ mod-eq_of_lt (omega (arith, ranked_fits b, s.small))
 
   -- one band further up: `up` is the out-link that leads to the root
   pub ranked_next : {b root bits up : ℕ} → b ≡ number → ClimbRight img b link root bits → up ≡ root → Ranked img rank up (first - page_count img number) (key + bits * unit) (unit * 16) (number - 1)

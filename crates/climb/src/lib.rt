@@ -11,10 +11,10 @@ ghost use Rattle.climb.specs.Climb.{ClimbRight};
 use crate::select::on_bit;
 use format::{OutLink, Root, link_to};
 use nodes::gather;
-use pages::{PageHead, band_at, head_of_link, node_count};
+use pages::{Band, PageHead};
 
 // A root of a band, and the four bits that lead from it to where the climb started.
-#[derive(Clone, Copy)]
+#[derive(Clone, Copy, Debug, PartialEq, Eq)]
 pub struct Climbed {
     pub root: Root,
     pub bits: u32,
@@ -26,17 +26,13 @@ fn climb(image: &[u8], head: PageHead, link: OutLink) -> Climbed
     ensures { ClimbRight image.now head.band link.0 result.root.0 result.bits }
 {
     let words = gather(image, 64 * head.number);
-    let nodes = node_count(head, &words.before);
+    let nodes = head.node_count(&words);
     let mut place = nodes + (link.0 - head.b.0);
     let mut bits = 0;
-    let mut unit = 1;
-    let mut level = 0usize;
-    while level < 4 {
-        let bit = on_bit(&words.word, &words.before, place - head.roots);
+    for level in 0..4u32 {
+        let bit = on_bit(&words, place - head.roots);
         place = bit / 2;
-        bits += ((bit % 2) as u32) * unit;
-        unit *= 2;
-        level += 1;
+        bits += ((bit % 2) as u32) << level;
     }
     Climbed {
         root: Root(head.t.0 + place),
@@ -51,18 +47,14 @@ pub fn key_at(image: &[u8], rank: usize) -> u32
 {
     let mut link = OutLink(rank);
     let mut first = image.len() / 64;
-    let mut key = 0u64;
-    let mut unit = 1u64;
-    let mut number = 8usize;
-    while 0 < number {
+    let mut key = 0;
+    for passed in 0..8 {
+        let number = 8 - passed;
         first -= header::page_count(image, number);
-        let band = band_at(image, number, first);
-        let head = head_of_link(image, band, link);
+        let head = Band::read(image, number, first).head_of_link(image, link);
         let climbed = climb(image, head, link);
-        key += (climbed.bits as u64) * unit;
-        unit *= 16;
+        key += climbed.bits << (4 * passed);
         link = link_to(climbed.root);
-        number -= 1;
     }
-    key as u32
+    key
 }

@@ -5,10 +5,10 @@ ghost use Rattle.std.specs.Int.Count.{ones};
 ghost use Rattle.nodes.specs.Words.{counts_before};
 ghost use Rattle.climb.specs.Select.{Halved, Selected, SideOf};
 
-use nodes::wide;
+use nodes::Words;
 
 // A part of a word: the place of its lowest bit, counted from the word's lowest, and the on bits of the part to pass over.
-#[derive(Clone, Copy)]
+#[derive(Clone, Copy, Debug, PartialEq, Eq)]
 struct Part {
     low: usize,
     left: usize,
@@ -63,21 +63,20 @@ fn word_of(before: &[u16; 9], number: usize) -> usize
     requires { (get_or before.now 0 0 ≤ number) × (number < get_or before.now 8 0) }
     ensures { (result < 8) × (get_or before.now result 0 ≤ number) × (number < get_or before.now (result + 1) 0) }
 {
-    let mut j = 0;
-    let mut next = wide(before[1]);
-    while next <= number {
-        j += 1;
-        next = wide(before[j + 1]);
+    for j in 0..7 {
+        if number < usize::from(before[j + 1]) {
+            return j;
+        }
     }
-    j
+    7
 }
 
 // On bit `number` of the page: twice its node's place, and 1 more for the second bit of the node.
-pub fn on_bit<'a>(word: &'a [u64; 9], before: &'a [u16; 9], number: usize) -> usize
-    requires { (before.now ≡ counts_before 0 word.now) × (get_or word.now 0 0 < 4294967296) × (number < get_or before.now 8 0) }
-    ensures { (result / 2 < 240) × (SideOf word.now before.now (result / 2) number (result % 2)) }
+pub fn on_bit(words: &Words, number: usize) -> usize
+    requires { (words.now.before ≡ counts_before 0 words.now.word) × (get_or words.now.word 0 0 < 4294967296) × (number < get_or words.now.before 8 0) }
+    ensures { (result / 2 < 240) × (SideOf words.now.word words.now.before (result / 2) number (result % 2)) }
 {
-    let j = word_of(before, number);
-    let passed = wide(before[j]);
-    64 * j + 31 - select(word[j], number - passed)
+    let j = word_of(&words.before, number);
+    let passed = usize::from(words.before[j]);
+    64 * j + 31 - select(words.word[j], number - passed)
 }
