@@ -47,7 +47,13 @@ fn changed_keys(image: &[u8], change: Change, key: u32, rank: usize, keys: &mut 
 }
 
 // Writes the changed list's image, in the version and for the lift of the image that is changed.
-pub fn write_changed(image: &[u8], change: Change, key: u32, rank: usize, out: &mut [u8]) -> Result<usize, Refusal>
+pub fn write_changed(
+    image: &[u8],
+    change: Change,
+    key: u32,
+    rank: usize,
+    out: &mut [u8],
+) -> Result<usize, Refusal>
     requires { Changing change image.now key rank }
     ensures { WrittenKeys (either_question (lift_of image.now)) (lift_of image.now) (changed_keys change key (keys_of image.now)) out.old result out.new }
 {

@@ -1,7 +1,7 @@
 -- The scan's answer and records, from lookup's answer and what 36, 29 and 21 to 26 then say.
 -- Assumes nothing.
 use mathlib.Core.Path.{◌≡◌, sym, ap, ◌∙◌}
-use mathlib.Core.Bool.{Bool, true, false, ◌||◌}
+use mathlib.Core.Bool.{Bool, true, ◌||◌}
 use mathlib.Core.Option.{none, some}
 use Rattle.std.specs.Prelude.{is_some, unwrap_or}
 use mathlib.Core.List.{List}
@@ -14,7 +14,7 @@ use Rattle.format.specs.Page.{Byte}
 use Rattle.format.specs.Key.{holder_of}
 use Rattle.format.specs.Image.{key_count, keys_of, lift_of}
 use Rattle.format.specs.Question.{Outcome, Question, first_no, image_questions, is_zero, outcome, refused, returns, settle}
-use Rattle.format.specs.Answer.{LookupAnswer, absent, listed, lookup, lookup_answer}
+use Rattle.format.specs.Answer.{listed, lookup, lookup_answer}
 use Rattle.format.specs.Scan.{gate_questions, holder_record, lift_fits, lockout_questions, records_after, records_after_scan, scan, scan_questions}
 use Rattle.format.proofs.Questions.{after_no, after_yes, yes_of_none}
 use Rattle.format.proofs.Jobs.{no_of_refused, yes_of_returns}

@@ -7,7 +7,7 @@ use Prim.Native.Nat.{ℕ, ◌≤◌, ◌<◌}
 use native.Mathlib.Omega.{arith}
 use borrow.Author.Tests.{le-leb, lt-leb, lt-ltb, le-ltb}
 use lib.Dec.{leb, ltb}
-use lib.ListN.{length, get_or, replicate, get_or-map}
+use lib.ListN.{length, get_or, get_or-map}
 use Rattle.format.specs.declared.Rectangle.{Rectangle}
 use Rattle.format.specs.Key.{holder_of, key_of, slot_of, unwoven}
 use Rattle.format.specs.Image.{key_count, keys_of, list_of}

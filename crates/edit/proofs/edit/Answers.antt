@@ -1,5 +1,4 @@
 -- `edit::edit` meets its contract. Assumes nothing.
-use mathlib.Core.Path.{sym}
 use Rattle.std.proofs.lemmas.Result.{err_from_is_err_and}
 use Rattle.nodes.proofs.Numbers.{bytes_of}
 use Rattle.edit.proofs.Job.{edit-by_key, edit_refused, located}

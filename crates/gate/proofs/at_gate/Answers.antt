@@ -57,6 +57,10 @@ module _ (fits : Bool) (keys : ℕ) (records : List ℕ) (lane : ℕ) (listed : 
             unfolding gate_questions
             past23 = yes_to 23 _ _ _ _ past22 (asked_23 n place below n_is place_is below_is) below_yes
 
+            only_24 : first_no questions ≡ first_no ((24, listed) ∷ [])
+            unfolding gate_questions
+            only_24 = past23
+
 -- 24 alone is left, and the rank tells
 last_settled : (rank : Option ℕ) (qs : List Question) → first_no qs ≡ first_no ((24, is_some rank) ∷ []) → outcome_of (ok_or rank Admission) ≡ settle qs (unwrap_or rank 0)
 unfolding settle first_no outcome
@@ -111,5 +115,4 @@ returns-then-not-below_end c =
 
 pub returns : goal.returns
 returns c = rw c.ok_or.ensures.value
-    (last_settled c.args.rank _
-    (past23 _ _ _ _ _ _ _ c.lift_fits-fits.ensures c.if-not-fits.false _ c.is_lane-lane_right.ensures c.if-not-lane_right.false _ c.key_count-keys.ensures.0 c.if-not-length_right.false (omega (arith, c.if-time-eq4294967295.false)) _ c.lane_place-count_place.ensures _ c.below_end.ensures c.if-not-below_end.false))
+    (last_settled c.args.rank _ (only_24 _ _ _ _ _ c.args.time _ c.lift_fits-fits.ensures c.if-not-fits.false _ c.is_lane-lane_right.ensures c.if-not-lane_right.false _ c.key_count-keys.ensures.0 c.if-not-length_right.false (omega (arith, c.if-time-eq4294967295.false)) _ c.lane_place-count_place.ensures _ c.below_end.ensures c.if-not-below_end.false))
