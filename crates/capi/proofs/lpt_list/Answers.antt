@@ -1,35 +1,20 @@
 -- `capi::lpt_list` meets its contract. Assumes nothing.
-use mathlib.Core.Path.{sym, ap, ◌∙◌}
-use native.Mathlib.Omega.{arith}
+use mir.Syntax.{w64}
+use mathlib.Core.Path.{ap, ◌∙◌}
+use mir.Facts.{to_z-of_z}
 use Rattle.nodes.proofs.Numbers.{bytes_of}
-use Rattle.capi.proofs.Signed.{back_neg, back_pos}
-use Rattle.capi.proofs.Answers.{list_few}
+use Rattle.capi.proofs.Answers.{list_fits}
 use Rattle.capi.specs.Encoding.{encoded}
 use Rattle.format.specs.Answer.{buffer_after_listing, listing}
-use Rattle.query.specs.Outcomes.{members_outcome}
-use borrow.Author.Rules.{rules}
+use borrow.Author.Rules.{sfits_of}
 use Rattle.capi.proofs.lpt_list.Goals as goal
 
 pub answer-requires : goal.answer-requires
-unfolding members_outcome
-answer-requires c =
-    let rectangle = c.rectangle_of.ensures in
-    let told = ap (λ r. listing c.args.img.now r c.args.keys.now) (sym rectangle) ∙ sym c.list.ensures.0 ∙ ap members_outcome c.in-Count.is in
-    omega (arith, list_few c.args.img.now (bytes_of c.args.img.now (λ i. (c.shared_slice_known-1.given i).fits)) _ _ c.in-Count.n told)
+answer-requires c = list_fits c.args.img.now (bytes_of _ (λ i. (c.type_inv.img i).fits)) _ _ _ c.list.ensures.0
 
-pub returns-in-Count : goal.returns-in-Count
-unfolding members_outcome
-returns-in-Count c =
-    let rectangle = c.rectangle_of.ensures in
-    let told = ap (λ r. listing c.args.img.now r c.args.keys.now) (sym rectangle) ∙ sym c.list.ensures.0 ∙ ap members_outcome c.in-Count.is in
-    let n = c.in-Count.n in (
-      back_pos c.answer.result n (omega (arith, list_few c.args.img.now (bytes_of c.args.img.now (λ i. (c.shared_slice_known-1.given i).fits)) _ _ n told)) c.answer.ensures ∙ sym (ap encoded told),
-      c.list.ensures.1 ∙ ap (λ r. buffer_after_listing c.args.img.now r c.args.keys.now) rectangle,
+pub returns : goal.returns
+returns c =
+    let r = c.rectangle_of.ensures in (
+      to_z-of_z {w = w64} (sfits_of c.answer.type_inv) ∙ c.answer.ensures ∙ ap encoded (c.list.ensures.0 ∙ ap (λ r. listing c.args.img.now r c.args.keys.now) r),
+      c.list.ensures.1 ∙ ap (λ r. buffer_after_listing c.args.img.now r c.args.keys.now) r,
     )
-
-pub returns-in-Refused : goal.returns-in-Refused
-unfolding members_outcome
-returns-in-Refused c =
-    let rectangle = c.rectangle_of.ensures in
-    let told = ap (λ r. listing c.args.img.now r c.args.keys.now) (sym rectangle) ∙ sym c.list.ensures.0 ∙ ap members_outcome c.in-Refused.is in
-    (back_neg c.refusal.result c.in-Refused.n (search rules) c.refusal.ensures ∙ sym (ap encoded told), c.list.ensures.1 ∙ ap (λ r. buffer_after_listing c.args.img.now r c.args.keys.now) rectangle)

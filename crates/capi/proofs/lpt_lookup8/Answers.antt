@@ -8,5 +8,5 @@ use Rattle.capi.proofs.lpt_lookup8.Goals as goal
 
 pub returns : goal.returns
 returns c =
-    let e = c.lookup.ensures.0 in
+    let e = c.lookup.ensures in
     (to_z-of_z {w = w64} (sfits_of c.looked_up.type_inv) ∙ c.looked_up.ensures.0 ∙ ap encoded_lookup e, c.looked_up.ensures.1 ∙ ap (λ o. lookup_buffer o c.args.out.now) e)

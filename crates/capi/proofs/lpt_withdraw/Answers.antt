@@ -7,9 +7,9 @@ use Rattle.capi.proofs.Length.{edit_to_c, edit_within}
 use borrow.Author.Rules.{rules, sfits_of}
 use Rattle.capi.proofs.lpt_withdraw.Goals as goal
 
-pub written-requires : goal.written-requires
-written-requires c =
-    edit_within _ _ _ _ _ _ _ (bytes_of c.args.img.now (λ i. (c.shared_slice_known-1.given i).fits)) (search rules, search rules) _ _ _ c.withdraw.ensures
+pub answer-requires : goal.answer-requires
+answer-requires c =
+    edit_within _ _ _ _ _ _ _ (bytes_of c.args.img.now (λ i. (c.type_inv.img i).fits)) (search rules, search rules) _ _ _ c.withdraw.ensures
 
 pub returns : goal.returns
-returns c = edit_to_c _ _ _ _ _ _ _ _ _ _ _ c.withdraw.ensures (to_z-of_z {w = w64} (sfits_of c.written.type_inv) ∙ c.written.ensures)
+returns c = edit_to_c _ _ _ _ _ _ _ _ _ _ _ c.withdraw.ensures (to_z-of_z {w = w64} (sfits_of c.answer.type_inv) ∙ c.answer.ensures)

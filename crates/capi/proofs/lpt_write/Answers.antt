@@ -6,8 +6,8 @@ use borrow.Author.Rules.{sfits_of}
 use Rattle.capi.proofs.Length.{to_c, within}
 use Rattle.capi.proofs.lpt_write.Goals as goal
 
-pub written-requires : goal.written-requires
-written-requires c = within _ _ _ _ _ c.write.ensures
+pub answer-requires : goal.answer-requires
+answer-requires c = within _ _ _ _ _ c.write.ensures
 
 pub returns : goal.returns
-returns c = to_c _ _ _ _ _ _ c.write.ensures (to_z-of_z {w = w64} (sfits_of c.written.type_inv) ∙ c.written.ensures)
+returns c = to_c _ _ _ _ _ _ c.write.ensures (to_z-of_z {w = w64} (sfits_of c.answer.type_inv) ∙ c.answer.ensures)

@@ -9,11 +9,11 @@ use Rattle.capi.proofs.Length.{keys_within}
 use borrow.Author.Rules.{sfits_of}
 use Rattle.capi.proofs.lpt_write_keys.Goals as goal
 
-pub written-requires : goal.written-requires
-written-requires c =
-    keys_within _ _ (all_of (λ (key : ℕ). key < 2 ^ 32) c.args.keys.now 0 (λ i. (c.shared_slice_known-1.given i).fits)) _ _ _ c.write_keys.ensures
+pub answer-requires : goal.answer-requires
+answer-requires c =
+    keys_within _ _ (all_of (λ (key : ℕ). key < 2 ^ 32) c.args.keys.now 0 (λ i. (c.type_inv.keys i).fits)) _ _ _ c.write_keys.ensures
 
 pub returns : goal.returns
 returns c =
     let w = c.write_keys in
-    (to_z-of_z {w = w64} (sfits_of c.written.type_inv) ∙ c.written.ensures ∙ ap encoded w.ensures.returned, w.ensures.bytes)
+    (to_z-of_z {w = w64} (sfits_of c.answer.type_inv) ∙ c.answer.ensures ∙ ap encoded w.ensures.returned, w.ensures.bytes)
