@@ -3,18 +3,17 @@
 // so long.
 #![tactic(auto)]
 
-use repair::Repaired;
 use std::io;
 
 fn main(rt: HostRuntime) -> io::Result<()> {
     let mut input = [0u8; 65537];
     let n = input::read_full(&mut rt.stdin(), &mut input)?;
     let mut out = [0u8; 65537];
-    match repair::repair(&input[0..n], &mut out) {
-        Repaired::Altered(altered) => {
-            rt.write_all(&out[0..n])?;
+    match repair::repair(&input[..n], &mut out) {
+        Ok(altered) => {
+            rt.write_all(&out[..n])?;
             eprintln!(rt; "altered {altered}")
         }
-        Repaired::Refused(question) => eprintln!(rt; "refused {question}"),
+        Err(refusal) => eprintln!(rt; "refused {refusal}"),
     }
 }
