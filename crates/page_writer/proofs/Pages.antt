@@ -180,6 +180,18 @@ module _ (page q : List ℕ) (count : ℕ) (g : LevelsRoom page q count) where
       split (suc a) b zero e = absurd (omega arith)
       split (suc a) b (suc n) e = ap (0 ∷◌) (split a b n (omega arith))
 
+  -- after the fourth level, the third and the second
+  module _ (page₁ keys₁ : List ℕ) (l₁ : Level) (d₁ : LevelDone page q 0 count page₁ keys₁ l₁) where
+    pub fourth_reached : Reached page q count 3 1 page₁ keys₁ l₁.first l₁.node
+    fourth_reached = reached_next page q count 3 0 page q 0 count reached_start page₁ keys₁ l₁ d₁
+
+    module _ (page₂ keys₂ : List ℕ) (l₂ : Level) (d₂ : LevelDone page₁ keys₁ l₁.first l₁.node page₂ keys₂ l₂) where
+      pub third_reached : Reached page q count 2 2 page₂ keys₂ l₂.first l₂.node
+      third_reached = reached_next page q count 2 1 page₁ keys₁ l₁.first l₁.node fourth_reached page₂ keys₂ l₂ d₂
+
+      pub second_reached : (page₃ keys₃ : List ℕ) (l₃ : Level) → LevelDone page₂ keys₂ l₂.first l₂.node page₃ keys₃ l₃ → Reached page q count 1 3 page₃ keys₃ l₃.first l₃.node
+      second_reached page₃ keys₃ l₃ d₃ = reached_next page q count 1 2 page₂ keys₂ l₂.first l₂.node third_reached page₃ keys₃ l₃ d₃
+
   pub reached_end : (page₁ keys₁ page' keys' : List ℕ) (fourth level : Level) → LevelDone page q 0 count page₁ keys₁ fourth → Reached page q count 0 4 page' keys' level.first level.node
       → LevelsDone page q count page' keys' (record { first = level.first; node = fourth.node })
   unfolding flatten roots_above heads

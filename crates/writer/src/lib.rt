@@ -45,7 +45,8 @@ fn write_over(places: &mut [u32], keys: &[u32], lift: u16, out: &mut [u8]) -> Re
     fill_image(places, out, &plan)
 }
 
-// The same for the keys of a list of admissions.
+// The same for the keys of a list of admissions. A closure that puts the keys, in place of two functions, is no plainer: its clauses are
+// longer than these four lines.
 fn write_woven(
     places: &mut [u32],
     list: &[Admission],
@@ -105,20 +106,7 @@ pub fn write(list: &[Admission], lift: u32, out: &mut [u8]) -> Result<usize, Ref
     write_woven(&mut places[..list.len()], list, lift, out)
 }
 
-// The same for the first `n` of an array of admissions.
-fn write_some(
-    list: [Admission; 4096],
-    n: usize,
-    lift: u32,
-    out: &mut [u8],
-) -> Result<usize, Refusal>
-    requires { n ≤ 4096 }
-    ensures { WrittenList lift (take n list) out.old result out.new }
-{
-    write(&list[..n], lift, out)
-}
-
-// The same for a caller that owns the array: an `n` above 4,096 gets a no at 35 or 14.
+// The same for a caller that owns the array: an `n` above 4,096 gets a no at 35 or 14. `WrittenFirst` holds it to an array and a count.
 pub fn write_first(
     list: [Admission; 4096],
     n: usize,
@@ -131,5 +119,5 @@ pub fn write_first(
         asked_lift(lift)?;
         return Err(Refusal::More);
     }
-    write_some(list, n, lift, out)
+    write(&list[..n], lift, out)
 }

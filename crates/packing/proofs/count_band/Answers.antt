@@ -3,9 +3,9 @@
 use mathlib.Core.Path.{refl, sym, ◌∙◌}
 use native.Mathlib.Omega.{arith}
 use lib.ListN.{length}
+use lib.Seq.{set-set, set-get_or}
 use Rattle.std.proofs.lemmas.Bool.{eqb-true, eqb-false}
 use Prim.Native.Nat.{◌+◌, ◌≤◌, ◌<◌}
-use Rattle.copying.proofs.Stores.{put_back}
 use Rattle.packing.proofs.Counting.{count_none, count_start, count_same, count_next, count-done, joined_more}
 use Rattle.packing.proofs.count_band.Goals as goal
 use Rattle.packing.proofs.count_band.Goals.{then-root-y, else-root-y}
@@ -14,7 +14,7 @@ pub returns-then-is_empty : goal.returns-then-is_empty
 returns-then-is_empty c = count_none _ (eqb-true _ _ (sym c.is_empty.ensures ∙ c.if-is_empty.true))
 
 pub loop-i-init : goal.loop-i-init
-loop-i-init c = (rw (put_back _ 0 _) (count_start _ c.requires (omega (arith, eqb-false _ _ (sym c.is_empty.ensures ∙ c.if-is_empty.false)))), refl)
+loop-i-init c = (rw (set-set, set-get_or) (count_start _ c.requires (omega (arith, eqb-false _ _ (sym c.is_empty.ensures ∙ c.if-is_empty.false)))), refl)
 
 pub loop-i-preserved : goal.loop-i-preserved
 loop-i-preserved c =
@@ -32,4 +32,4 @@ overflow_cast-result c =
     record { fits = omega (arith, most, inv.pages_few, inv.scan.begun, inv.scan.open_some, inv.scan.within, inv.few) }
 
 pub returns : goal.returns
-returns c = count-done _ _ _ _ _ _ _ _ _ (put_back _ 0 _) c.loop-i.invariant.0 (omega (arith, c.loop-i.auto.keys)) c.join-packing-2.ensures
+returns c = count-done _ _ _ _ _ _ _ _ _ (set-set _ 0 _ _ ∙ set-get_or _ 0 0) c.loop-i.invariant.0 (omega (arith, c.loop-i.auto.keys)) c.join-packing-2.ensures

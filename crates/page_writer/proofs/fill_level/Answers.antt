@@ -1,8 +1,9 @@
 -- `page_writer::fill_level` meets its contract. The invariant is `Marked`, of the prefixes as they were before the last was replaced.
 -- Assumes nothing.
+use mathlib.Core.Path.{◌∙◌}
 use native.Mathlib.Omega.{arith}
 use lib.ListN.{length-set}
-use Rattle.copying.proofs.Stores.{put_back}
+use lib.Seq.{set-set, set-get_or}
 use Rattle.page_writer.proofs.Levels.{end_some, start_small, node_some, other_small, scanned_end}
 use Rattle.page_writer.proofs.Marks.{marked_start, twice_small, marked_same, other_parent, marked_other}
 use Rattle.page_writer.proofs.fill_level.Goals as goal
@@ -14,7 +15,7 @@ pub overflow_add-byte-2 : goal.overflow_add-byte-2
 overflow_add-byte-2 c = record { fits = rw c.bit_in-bit.ensures (start_small _ _ _ _ c.requires) }
 
 pub loop-i-init : goal.loop-i-init
-loop-i-init c = rw (put_back, c.bit_in-bit.ensures) (marked_start _ _ _ _ c.requires)
+loop-i-init c = rw (set-set, set-get_or, c.bit_in-bit.ensures) (marked_start _ _ _ _ c.requires)
 
 pub offset_bounds-keys-i : goal.offset_bounds-keys-i
 offset_bounds-keys-i c = omega (arith, simp length-set at c.loop-i.invariant.scanned.some)
@@ -42,4 +43,4 @@ loop-i-preserved c = rw (c.leave-byte.ensures.0, c.leave-byte.ensures.1, c.bit_i
     (marked_other _ _ _ _ _ _ _ _ _ _ _ _ c.loop-i.invariant c.loop-i-test.true c.if-x-parent.false)
 
 pub returns : goal.returns
-returns c = scanned_end _ _ _ _ _ _ _ _ _ _ _ _ (put_back _ _ _) c.loop-i.invariant.scanned c.loop-i-test.false
+returns c = scanned_end _ _ _ _ _ _ _ _ _ _ _ _ (set-set _ _ _ _ ∙ set-get_or _ _ 0) c.loop-i.invariant.scanned c.loop-i-test.false

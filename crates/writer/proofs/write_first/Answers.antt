@@ -1,4 +1,4 @@
--- `writer::write_first` meets its contract: 35 and 14 are asked where n is above 4,096, and the rest is `write_some`'s. Assumes nothing.
+-- `writer::write_first` meets its contract: 35 and 14 are asked where n is above 4,096, and the rest is `write`'s. Assumes nothing.
 use mathlib.Core.Path.{refl}
 use Rattle.std.proofs.lemmas.Result.{err_from_is_err_and}
 use Rattle.writer.specs.Outcomes.{in_array, past_array}
@@ -14,4 +14,4 @@ pub returns-then-n-gt4096 : goal.returns-then-n-gt4096
 returns-then-n-gt4096 c = past_array c.if-n-gt4096.true (rw c.in_ok-asked_lift.ensures.1 refl) refl
 
 pub returns : goal.returns
-returns c = in_array c.if-n-gt4096.false c.write_some.ensures
+returns c = in_array c.if-n-gt4096.false c.write.ensures
