@@ -5,10 +5,11 @@ use Prim.Native.Nat.{ℕ, suc, ◌+◌, ◌*◌, ◌/◌, ◌%◌, ◌^◌, ◌�
 use native.Mathlib.Nat.{add_assoc, add-mul, mul-add, suc-mul}
 use native.Mathlib.Decide.{dec_lt}
 use native.Mathlib.Omega.{arith}
+use lib.Bits.{bit_and}
 use lib.Count.{ones}
 use lib.Pow.{shr-shr}
 use Rattle.climb.specs.Select.{Halved, Selected}
-use Rattle.climb.proofs.Sums.{counts_of, twice, twice_is, ones_halves, ones-rest, field_is, bit-ones}
+use Rattle.climb.proofs.Sums.{bits_are, counts_of, lower_of, sums_of, twice, twice_is, ones_halves, ones-rest, field_is, bit-ones}
 
 -- on bit n of a word is on bit `left` of its piece f of k pieces of m bits, which starts at place `low`
 pub record Chosen (w n k m low left : ℕ) : Type 0 where
@@ -86,3 +87,54 @@ pub chosen_end : {w n k low left : ℕ} → Chosen w n k 1 low left → Selected
 chosen_end {w} {n} {k} {low} {left} s =
     let e : ones (w / 2 ^ low % 2) ≡ w / 2 ^ low % 2 = bit-ones (w / 2 ^ low % 2) (omega arith) in
     record { within = omega (arith, s.fits); on = omega (arith, s.here); above = omega (arith, s.here, s.above) }
+
+-- ---- the counts over a word, and its halves down to one bit
+
+-- the counts over pieces of 2 to 32 bits
+pub record Counted (w twos fours eights sixteens halves : ℕ) : Type 0 where
+  pub two : twos ≡ counts_of 32 2 w
+  pub four : fours ≡ counts_of 16 4 w
+  pub eight : eights ≡ counts_of 8 8 w
+  pub sixteen : sixteens ≡ counts_of 4 16 w
+  pub half : halves ≡ counts_of 2 32 w
+
+pub counted : {w twos fours eights sixteens halves : ℕ} → w < 2 ^ 64
+    → twos ≡ bit_and w 0x5555_5555_5555_5555 + bit_and (w / 2 ^ 1) 0x5555_5555_5555_5555
+    → fours ≡ bit_and twos 0x3333_3333_3333_3333 + bit_and (twos / 2 ^ 2) 0x3333_3333_3333_3333
+    → eights ≡ bit_and fours 0x0f0f_0f0f_0f0f_0f0f + bit_and (fours / 2 ^ 4) 0x0f0f_0f0f_0f0f_0f0f
+    → sixteens ≡ bit_and eights 0x00ff_00ff_00ff_00ff + bit_and (eights / 2 ^ 8) 0x00ff_00ff_00ff_00ff
+    → halves ≡ bit_and sixteens 0x0000_ffff_0000_ffff + bit_and (sixteens / 2 ^ 16) 0x0000_ffff_0000_ffff
+    → Counted w twos fours eights sixteens halves
+unfolding twice lower_of
+counted {w} small e₁ e₂ e₃ e₄ e₅ =
+    let two = sums_of 32 1 w (sym (bits_are 64 w small)) refl e₁ in
+    let four = sums_of 16 2 w two refl e₂ in
+    let eight = sums_of 8 4 w four refl e₃ in
+    let sixteen = sums_of 4 8 w eight refl e₄ in
+    record { two = two; four = four; eight = eight; sixteen = sixteen; half = sums_of 2 16 w sixteen refl e₅ }
+
+pub half_32 : {w n twos fours eights sixteens halves low left : ℕ} → Counted w twos fours eights sixteens halves → w < 2 ^ 64 → n < ones w
+    → Halved (halves / 2 ^ (0 + 32) % 4294967296) 32 0 n low left → Chosen w n 2 32 low left
+unfolding twice
+half_32 {w} {n} k small h = chosen_half 32 (chosen_start w n small h) k.half refl
+
+module _ {w n twos fours eights sixteens halves low left low' left' : ℕ} (k : Counted w twos fours eights sixteens halves) where
+  pub half_16 : Chosen w n 2 32 low left → Halved (sixteens / 2 ^ (low + 16) % 65536) 16 low left low' left' → Chosen w n 4 16 low' left'
+  unfolding twice
+  half_16 s = chosen_half 16 s k.sixteen refl
+
+  pub half_8 : Chosen w n 4 16 low left → Halved (eights / 2 ^ (low + 8) % 256) 8 low left low' left' → Chosen w n 8 8 low' left'
+  unfolding twice
+  half_8 s = chosen_half 8 s k.eight refl
+
+  pub half_4 : Chosen w n 8 8 low left → Halved (fours / 2 ^ (low + 4) % 16) 4 low left low' left' → Chosen w n 16 4 low' left'
+  unfolding twice
+  half_4 s = chosen_half 4 s k.four refl
+
+  pub half_2 : Chosen w n 16 4 low left → Halved (twos / 2 ^ (low + 2) % 4) 2 low left low' left' → Chosen w n 32 2 low' left'
+  unfolding twice
+  half_2 s = chosen_half 2 s k.two refl
+
+pub half_1 : {w n low left low' left' : ℕ} → w < 2 ^ 64 → Chosen w n 32 2 low left → Halved (w / 2 ^ (low + 1) % 2) 1 low left low' left' → Selected w n low'
+unfolding twice
+half_1 {w} small s h = chosen_end (chosen_half 1 s (sym (bits_are 64 w small)) refl h)

@@ -22,21 +22,24 @@ fn sums(x: u64, width: usize, lower: u64) -> u64
     (x & lower) + ((x >> width) & lower)
 }
 
-// The half of a part, of `width` bits, in which its on bit `left` is. `counts` has the on bits of each `width` bits, and `size` is 2 to `width`.
-fn halve(counts: u64, width: usize, size: u64, part: Part) -> Part
-    requires { (part.low + width < 64) × (0 < size) }
-    ensures { Halved (counts / 2 ^ (part.low + width) % size) width part.low part.left result.low result.left }
-{
-    let upper = ((counts >> (part.low + width)) % size) as usize;
-    if part.left < upper {
-        return Part {
-            low: part.low + width,
-            left: part.left,
-        };
-    }
-    Part {
-        low: part.low,
-        left: part.left - upper,
+impl Part {
+    // The half, of `width` bits, in which its on bit `left` is. `counts` has the on bits of each `width` bits.
+    fn halve(self, counts: u64, width: usize) -> Part
+        requires { self.low + width < 64 }
+        ensures { Halved (counts / 2 ^ (self.low + width) % 2 ^ width) width self.low self.left result.low result.left }
+    {
+        let upper = ((counts >> (self.low + width)) % (1 << width)) as usize;
+        if self.left < upper {
+            Part {
+                low: self.low + width,
+                left: self.left,
+            }
+        } else {
+            Part {
+                low: self.low,
+                left: self.left - upper,
+            }
+        }
     }
 }
 
@@ -50,12 +53,14 @@ fn select(w: u64, left: usize) -> usize
     let eights = sums(fours, 4, 0x0f0f_0f0f_0f0f_0f0f);
     let sixteens = sums(eights, 8, 0x00ff_00ff_00ff_00ff);
     let halves = sums(sixteens, 16, 0x0000_ffff_0000_ffff);
-    let half = halve(halves, 32, 4294967296, Part { low: 0, left });
-    let sixteen = halve(sixteens, 16, 65536, half);
-    let eight = halve(eights, 8, 256, sixteen);
-    let four = halve(fours, 4, 16, eight);
-    let two = halve(twos, 2, 4, four);
-    halve(w, 1, 2, two).low
+    Part { low: 0, left }
+        .halve(halves, 32)
+        .halve(sixteens, 16)
+        .halve(eights, 8)
+        .halve(fours, 4)
+        .halve(twos, 2)
+        .halve(w, 1)
+        .low
 }
 
 // The word that has on bit `number` of the page.

@@ -2,7 +2,7 @@
 // over the page is then taken from one word.
 #![tactic(auto)]
 
-ghost use Rattle.std.specs.Prelude.{◌≡◌, [], ◌∷◌, ◌+◌, ◌-◌, ◌*◌, ◌/◌, ◌%◌, ◌^◌, ◌≤◌, ◌<◌, eqb, length, get_or};
+ghost use Rattle.std.specs.Prelude.{◌≡◌, ◌+◌, ◌-◌, ◌*◌, ◌/◌, ◌%◌, ◌^◌, ◌≤◌, ◌<◌, eqb, length, get_or};
 ghost use Rattle.std.specs.Int.Count.{ones};
 ghost use Rattle.nodes.specs.Words.{half_at, word_at, words_of, counts_before, ones_before, ones_through, rest_empty, node_in, low_bits, used_nodes, none_empty};
 
@@ -47,19 +47,15 @@ pub fn word(s: &[u8], at: usize) -> u64
     (half(s, at) << 32) + half(s, at + 4)
 }
 
-// The set bits of the words before each of eight words and the one after them.
-fn counts_before(a: u64, b: u64, c: u64, d: u64, e: u64, f: u64, g: u64, h: u64) -> [u16; 9]
-    ensures { result ≡ counts_before 0 (a ∷ b ∷ c ∷ d ∷ e ∷ f ∷ g ∷ h ∷ 0 ∷ []) }
+// The set bits of the words before each.
+fn counts_before(word: &[u64; 9]) -> [u16; 9]
+    ensures { result ≡ counts_before 0 word.now }
 {
-    let n1 = ones_of(a);
-    let n2 = n1 + ones_of(b);
-    let n3 = n2 + ones_of(c);
-    let n4 = n3 + ones_of(d);
-    let n5 = n4 + ones_of(e);
-    let n6 = n5 + ones_of(f);
-    let n7 = n6 + ones_of(g);
-    let n8 = n7 + ones_of(h);
-    [0, n1, n2, n3, n4, n5, n6, n7, n8]
+    let mut before = [0; 9];
+    for j in 1..9 {
+        before[j] = before[j - 1] + ones_of(word[j - 1]);
+    }
+    before
 }
 
 // The words of the page at `at`.
@@ -67,19 +63,19 @@ pub fn gather(bytes: &[u8], at: usize) -> Words
     requires { at + 64 ≤ length bytes.now }
     ensures { result ≡ words_of bytes.now at }
 {
-    let a = half(bytes, at + 4);
-    let b = word(bytes, at + 8);
-    let c = word(bytes, at + 16);
-    let d = word(bytes, at + 24);
-    let e = word(bytes, at + 32);
-    let f = word(bytes, at + 40);
-    let g = word(bytes, at + 48);
-    let h = word(bytes, at + 56);
-    let before = counts_before(a, b, c, d, e, f, g, h);
-    Words {
-        word: [a, b, c, d, e, f, g, h, 0],
-        before,
-    }
+    let word = [
+        half(bytes, at + 4),
+        word(bytes, at + 8),
+        word(bytes, at + 16),
+        word(bytes, at + 24),
+        word(bytes, at + 32),
+        word(bytes, at + 40),
+        word(bytes, at + 48),
+        word(bytes, at + 56),
+        0,
+    ];
+    let before = counts_before(&word);
+    Words { word, before }
 }
 
 // The low bit of each node of `w` that is not 00.

@@ -106,17 +106,9 @@ impl Band {
         requires { (Ready image.now) × (BandRead image.now self) × (head_at image.now self.number (offset_of field) 0 ≤ x) }
         ensures { LastPage image.now self.number (offset_of field) x result }
     {
-        let mut low = 0;
-        let mut high = self.pages;
-        while low + 1 < high {
-            let middle = (low + high) / 2;
-            if self.number_at(image, field, middle) <= x {
-                low = middle;
-            } else {
-                high = middle;
-            }
-        }
-        low
+        let start = 64 * self.first;
+        let (pages, _) = image[start..start + 64 * self.pages].as_chunks::<64>();
+        pages.partition_point(|page| header::number(page, field.offset()) <= x) - 1
     }
 
     // The head of page `index`.

@@ -1,5 +1,6 @@
 // The walks over the subtries that have members. The walker of a subtrie and the opener of a band call each other until no band is left: `open_band` and
-// `walk_subtrie` where blocks lie across the rectangle, `open_inside` and `walk_inside` below a block that lies inside.
+// `walk_subtrie` where blocks lie across the rectangle, `open_inside` and `walk_inside` below a block that lies inside. The two walks are no one generic
+// function: one that lists all keys keeps no holder and no slot, asks nothing, and passes single out-links in a loop; a trait for that would be longer.
 #![tactic(auto)]
 
 mod block;
@@ -44,162 +45,169 @@ fn put(keys: &mut [u32], at: usize, key: u32) -> usize
     at + 1
 }
 
-// Writes a key at a place, if it is inside the rectangle. The next place.
-fn list_key(rectangle: Rectangle, keys: &mut [u32], at: usize, key: Block) -> usize
-    requires { (BlockOf key) × (inside rectangle key.prefix ≡ true → at < 4096) }
-    ensures { Listed (select (inside rectangle) (key.prefix ∷ [])) keys.old at keys.new result }
-{
-    if key.is_in(rectangle) {
-        return put(keys, at, key.prefix);
-    }
-    at
+// An image, and the rectangle whose members are looked for in it. The buffer and the reading of the bands are handed on beside it: of a `&mut` in a struct
+// that is itself behind a `&mut` a caller does not learn what it holds in the end.
+#[derive(Clone, Copy, Debug, PartialEq, Eq)]
+struct Search<'a> {
+    image: &'a [u8],
+    rectangle: Rectangle,
 }
 
-// Lists the keys that start with `prefix`, to which the out-link leads. Where a subtrie has one out-link alone, the band below is read at once.
-#[cycle(list_below_open_inside_walk_inside)]
-fn open_inside(
-    image: &[u8],
-    keys: &mut [u32],
-    spots: &mut [Spot; 8],
-    done: usize,
-    band: usize,
-    link: OutLink,
-    prefix: u32,
-) -> usize
-    requires { (Opening image.now band link.0 prefix) × (Spots image.now spots.old) × (done + length (members_between image.now any_key (prefix * 2 ^ (36 - 4 * band)) ((prefix + 1) * 2 ^ (36 - 4 * band))) ≤ 4096) }
-    ensures { (Listed (members_between image.now any_key (prefix * 2 ^ (36 - 4 * band)) ((prefix + 1) * 2 ^ (36 - 4 * band))) keys.old done keys.new result) × (Spots image.now spots.new) }
-{
-    let mut next = link;
-    let mut key = prefix;
-    for number in band..9 {
-        let subtrie = next_subtrie(image, spots, number, cross(next));
-        let ending = first_on(subtrie.set);
-        if without(subtrie.set, ending) != 0 {
-            return walk_inside(image, keys, spots, done, number, subtrie, key);
+impl<'a> Search<'a> {
+    // Writes a key at a place, if it is inside the rectangle. The next place.
+    fn list_key(&self, keys: &mut [u32], at: usize, key: Block) -> usize
+        requires { (BlockOf key) × (inside self.now.rectangle key.prefix ≡ true → at < 4096) }
+        ensures { Listed (select (inside self.now.rectangle) (key.prefix ∷ [])) keys.old at keys.new result }
+    {
+        if key.is_in(self.rectangle) {
+            return put(keys, at, key.prefix);
         }
-        next = subtrie.link;
-        key = 16 * key + ending;
+        at
     }
-    put(keys, done, key)
-}
 
-// Lists the keys that start with `prefix`, to which the out-link leads; out of band 8 that is one.
-#[cycle(list_below_open_inside_walk_inside)]
-fn list_below(
-    image: &[u8],
-    keys: &mut [u32],
-    spots: &mut [Spot; 8],
-    done: usize,
-    band: usize,
-    link: OutLink,
-    prefix: u32,
-) -> usize
-    requires { (Opening image.now band link.0 prefix) × (Spots image.now spots.old) × (done + length (members_between image.now any_key (prefix * 2 ^ (36 - 4 * band)) ((prefix + 1) * 2 ^ (36 - 4 * band))) ≤ 4096) }
-    ensures { (Listed (members_between image.now any_key (prefix * 2 ^ (36 - 4 * band)) ((prefix + 1) * 2 ^ (36 - 4 * band))) keys.old done keys.new result) × (Spots image.now spots.new) }
-{
-    if band == 9 {
-        return put(keys, done, prefix);
+    // Lists the keys that start with `prefix`, to which the out-link leads. Where a subtrie has one out-link alone, the band below is read at once.
+    #[cycle(list_below_open_inside_walk_inside)]
+    fn open_inside(
+        &self,
+        keys: &mut [u32],
+        spots: &mut [Spot; 8],
+        done: usize,
+        band: usize,
+        link: OutLink,
+        prefix: u32,
+    ) -> usize
+        requires { (Opening self.now.image.now band link.0 prefix) × (Spots self.now.image.now spots.old) × (done + length (members_between self.now.image.now any_key (prefix * 2 ^ (36 - 4 * band)) ((prefix + 1) * 2 ^ (36 - 4 * band))) ≤ 4096) }
+        ensures { (Listed (members_between self.now.image.now any_key (prefix * 2 ^ (36 - 4 * band)) ((prefix + 1) * 2 ^ (36 - 4 * band))) keys.old done keys.new result) × (Spots self.now.image.now spots.new) }
+    {
+        let mut next = link;
+        let mut key = prefix;
+        for number in band..9 {
+            let subtrie = next_subtrie(self.image, spots, number, cross(next));
+            let ending = first_on(subtrie.set);
+            if without(subtrie.set, ending) != 0 {
+                return self.walk_inside(keys, spots, done, number, subtrie, key);
+            }
+            next = subtrie.link;
+            key = 16 * key + ending;
+        }
+        put(keys, done, key)
     }
-    open_inside(image, keys, spots, done, band, link, prefix)
-}
 
-// Lists the keys below the out-links of a subtrie.
-#[cycle(list_below_open_inside_walk_inside)]
-fn walk_inside(
-    image: &[u8],
-    keys: &mut [u32],
-    spots: &mut [Spot; 8],
-    done: usize,
-    number: usize,
-    subtrie: Subtrie,
-    prefix: u32,
-) -> usize
-    requires { (Walking image.now number subtrie.set subtrie.link.0 prefix 0) × (Spots image.now spots.old) × (done + length (members_between image.now any_key ((16 * prefix + 0) * 2 ^ (36 - 4 * (number + 1))) ((16 * prefix + 16) * 2 ^ (36 - 4 * (number + 1)))) ≤ 4096) }
-    ensures { (Listed (members_between image.now any_key ((16 * prefix + 0) * 2 ^ (36 - 4 * (number + 1))) ((16 * prefix + 16) * 2 ^ (36 - 4 * (number + 1)))) keys.old done keys.new result) × (Spots image.now spots.new) }
-{
-    let mut n = done;
-    let mut next = subtrie.link;
-    let mut rest = subtrie.set;
-    while rest != 0 {
-        let ending = first_on(rest);
-        rest = without(rest, ending);
-        let key = 16 * prefix + ending;
-        n = list_below(image, keys, spots, n, number + 1, next, key);
-        next = OutLink(next.0 + 1);
+    // Lists the keys that start with `prefix`, to which the out-link leads; out of band 8 that is one.
+    #[cycle(list_below_open_inside_walk_inside)]
+    fn list_below(
+        &self,
+        keys: &mut [u32],
+        spots: &mut [Spot; 8],
+        done: usize,
+        band: usize,
+        link: OutLink,
+        prefix: u32,
+    ) -> usize
+        requires { (Opening self.now.image.now band link.0 prefix) × (Spots self.now.image.now spots.old) × (done + length (members_between self.now.image.now any_key (prefix * 2 ^ (36 - 4 * band)) ((prefix + 1) * 2 ^ (36 - 4 * band))) ≤ 4096) }
+        ensures { (Listed (members_between self.now.image.now any_key (prefix * 2 ^ (36 - 4 * band)) ((prefix + 1) * 2 ^ (36 - 4 * band))) keys.old done keys.new result) × (Spots self.now.image.now spots.new) }
+    {
+        if band == 9 {
+            return put(keys, done, prefix);
+        }
+        self.open_inside(keys, spots, done, band, link, prefix)
     }
-    n
-}
 
-// Lists the members in a block that lies across the rectangle, to which the out-link leads.
-#[cycle(list_block_open_band_walk_subtrie)]
-fn open_band(
-    image: &[u8],
-    rectangle: Rectangle,
-    keys: &mut [u32],
-    spots: &mut [Spot; 8],
-    done: usize,
-    number: usize,
-    link: OutLink,
-    block: Block,
-) -> usize
-    requires { (Opening image.now number link.0 block.prefix) × (number ≤ 8) × (BlockOf block) × (Spots image.now spots.old) × (done + length (members_between image.now (inside rectangle) (block.prefix * 2 ^ (36 - 4 * number)) ((block.prefix + 1) * 2 ^ (36 - 4 * number))) ≤ 4096) }
-    ensures { (Listed (members_between image.now (inside rectangle) (block.prefix * 2 ^ (36 - 4 * number)) ((block.prefix + 1) * 2 ^ (36 - 4 * number))) keys.old done keys.new result) × (Spots image.now spots.new) }
-{
-    let subtrie = next_subtrie(image, spots, number, cross(link));
-    walk_subtrie(image, rectangle, keys, spots, done, number, subtrie, block)
-}
+    // Lists the keys below the out-links of a subtrie.
+    #[cycle(list_below_open_inside_walk_inside)]
+    fn walk_inside(
+        &self,
+        keys: &mut [u32],
+        spots: &mut [Spot; 8],
+        done: usize,
+        number: usize,
+        subtrie: Subtrie,
+        prefix: u32,
+    ) -> usize
+        requires { (Walking self.now.image.now number subtrie.set subtrie.link.0 prefix 0) × (Spots self.now.image.now spots.old) × (done + length (members_between self.now.image.now any_key ((16 * prefix + 0) * 2 ^ (36 - 4 * (number + 1))) ((16 * prefix + 16) * 2 ^ (36 - 4 * (number + 1)))) ≤ 4096) }
+        ensures { (Listed (members_between self.now.image.now any_key ((16 * prefix + 0) * 2 ^ (36 - 4 * (number + 1))) ((16 * prefix + 16) * 2 ^ (36 - 4 * (number + 1)))) keys.old done keys.new result) × (Spots self.now.image.now spots.new) }
+    {
+        let mut n = done;
+        let mut next = subtrie.link;
+        let mut rest = subtrie.set;
+        while rest != 0 {
+            let ending = first_on(rest);
+            rest = without(rest, ending);
+            let key = 16 * prefix + ending;
+            n = self.list_below(keys, spots, n, number + 1, next, key);
+            next = OutLink(next.0 + 1);
+        }
+        n
+    }
 
-// Lists the members in a block, to which the out-link leads; out of band 8 that is a key.
-#[cycle(list_block_open_band_walk_subtrie)]
-fn list_block(
-    image: &[u8],
-    rectangle: Rectangle,
-    keys: &mut [u32],
-    spots: &mut [Spot; 8],
-    done: usize,
-    number: usize,
-    link: OutLink,
-    block: Block,
-) -> usize
-    requires { (Opening image.now number link.0 block.prefix) × (BlockOf block) × (Spots image.now spots.old) × (done + length (members_between image.now (inside rectangle) (block.prefix * 2 ^ (36 - 4 * number)) ((block.prefix + 1) * 2 ^ (36 - 4 * number))) ≤ 4096) }
-    ensures { (Listed (members_between image.now (inside rectangle) (block.prefix * 2 ^ (36 - 4 * number)) ((block.prefix + 1) * 2 ^ (36 - 4 * number))) keys.old done keys.new result) × (Spots image.now spots.new) }
-{
-    if number == 9 {
-        return list_key(rectangle, keys, done, block);
+    // Lists the members in a block that lies across the rectangle, to which the out-link leads.
+    #[cycle(list_block_open_band_walk_subtrie)]
+    fn open_band(
+        &self,
+        keys: &mut [u32],
+        spots: &mut [Spot; 8],
+        done: usize,
+        number: usize,
+        link: OutLink,
+        block: Block,
+    ) -> usize
+        requires { (Opening self.now.image.now number link.0 block.prefix) × (number ≤ 8) × (BlockOf block) × (Spots self.now.image.now spots.old) × (done + length (members_between self.now.image.now (inside self.now.rectangle) (block.prefix * 2 ^ (36 - 4 * number)) ((block.prefix + 1) * 2 ^ (36 - 4 * number))) ≤ 4096) }
+        ensures { (Listed (members_between self.now.image.now (inside self.now.rectangle) (block.prefix * 2 ^ (36 - 4 * number)) ((block.prefix + 1) * 2 ^ (36 - 4 * number))) keys.old done keys.new result) × (Spots self.now.image.now spots.new) }
+    {
+        let subtrie = next_subtrie(self.image, spots, number, cross(link));
+        self.walk_subtrie(keys, spots, done, number, subtrie, block)
     }
-    match block.place_in(rectangle, 18 - 2 * number) {
-        Place::Apart => done,
-        Place::Inside => open_inside(image, keys, spots, done, number, link, block.prefix),
-        Place::Across => open_band(image, rectangle, keys, spots, done, number, link, block),
-    }
-}
 
-// Lists the members below the out-links of a subtrie. Each opens the band below.
-#[cycle(list_block_open_band_walk_subtrie)]
-fn walk_subtrie(
-    image: &[u8],
-    rectangle: Rectangle,
-    keys: &mut [u32],
-    spots: &mut [Spot; 8],
-    done: usize,
-    number: usize,
-    subtrie: Subtrie,
-    block: Block,
-) -> usize
-    requires { (Walking image.now number subtrie.set subtrie.link.0 block.prefix 0) × (BlockOf block) × (Spots image.now spots.old) × (done + length (members_between image.now (inside rectangle) ((16 * block.prefix + 0) * 2 ^ (36 - 4 * (number + 1))) ((16 * block.prefix + 16) * 2 ^ (36 - 4 * (number + 1)))) ≤ 4096) }
-    ensures { (Listed (members_between image.now (inside rectangle) ((16 * block.prefix + 0) * 2 ^ (36 - 4 * (number + 1))) ((16 * block.prefix + 16) * 2 ^ (36 - 4 * (number + 1)))) keys.old done keys.new result) × (Spots image.now spots.new) }
-{
-    let mut n = done;
-    let mut next = subtrie.link;
-    let mut rest = subtrie.set;
-    while rest != 0 {
-        let ending = first_on(rest);
-        rest = without(rest, ending);
-        let below = block.part(ending);
-        n = list_block(image, rectangle, keys, spots, n, number + 1, next, below);
-        next = OutLink(next.0 + 1);
+    // Lists the members in a block, to which the out-link leads; out of band 8 that is a key.
+    #[cycle(list_block_open_band_walk_subtrie)]
+    fn list_block(
+        &self,
+        keys: &mut [u32],
+        spots: &mut [Spot; 8],
+        done: usize,
+        number: usize,
+        link: OutLink,
+        block: Block,
+    ) -> usize
+        requires { (Opening self.now.image.now number link.0 block.prefix) × (BlockOf block) × (Spots self.now.image.now spots.old) × (done + length (members_between self.now.image.now (inside self.now.rectangle) (block.prefix * 2 ^ (36 - 4 * number)) ((block.prefix + 1) * 2 ^ (36 - 4 * number))) ≤ 4096) }
+        ensures { (Listed (members_between self.now.image.now (inside self.now.rectangle) (block.prefix * 2 ^ (36 - 4 * number)) ((block.prefix + 1) * 2 ^ (36 - 4 * number))) keys.old done keys.new result) × (Spots self.now.image.now spots.new) }
+    {
+        if number == 9 {
+            return self.list_key(keys, done, block);
+        }
+        match block.place_in(self.rectangle, 18 - 2 * number) {
+            Place::Apart => done,
+            Place::Inside => self.open_inside(keys, spots, done, number, link, block.prefix),
+            Place::Across => self.open_band(keys, spots, done, number, link, block),
+        }
     }
-    n
+
+    // Lists the members below the out-links of a subtrie. Each opens the band below.
+    #[cycle(list_block_open_band_walk_subtrie)]
+    fn walk_subtrie(
+        &self,
+        keys: &mut [u32],
+        spots: &mut [Spot; 8],
+        done: usize,
+        number: usize,
+        subtrie: Subtrie,
+        block: Block,
+    ) -> usize
+        requires { (Walking self.now.image.now number subtrie.set subtrie.link.0 block.prefix 0) × (BlockOf block) × (Spots self.now.image.now spots.old) × (done + length (members_between self.now.image.now (inside self.now.rectangle) ((16 * block.prefix + 0) * 2 ^ (36 - 4 * (number + 1))) ((16 * block.prefix + 16) * 2 ^ (36 - 4 * (number + 1)))) ≤ 4096) }
+        ensures { (Listed (members_between self.now.image.now (inside self.now.rectangle) ((16 * block.prefix + 0) * 2 ^ (36 - 4 * (number + 1))) ((16 * block.prefix + 16) * 2 ^ (36 - 4 * (number + 1)))) keys.old done keys.new result) × (Spots self.now.image.now spots.new) }
+    {
+        let mut n = done;
+        let mut next = subtrie.link;
+        let mut rest = subtrie.set;
+        while rest != 0 {
+            let ending = first_on(rest);
+            rest = without(rest, ending);
+            let below = block.part(ending);
+            n = self.list_block(keys, spots, n, number + 1, next, below);
+            next = OutLink(next.0 + 1);
+        }
+        n
+    }
 }
 
 // Lists the members of the rectangle, ascending, into the first places of `keys`, as far as it has places. How many there are.
@@ -210,11 +218,12 @@ pub fn list_members(image: &[u8], rectangle: Rectangle, keys: &mut [u32]) -> usi
     if header::key_count(image) == 0 {
         return 0;
     }
+    let search = Search { image, rectangle };
     let whole = Block::whole();
     let mut spots = [NO_SPOT; 8];
     match whole.place_in(rectangle, 16) {
-        Place::Inside => open_inside(image, keys, &mut spots, 0, 1, OutLink(0), 0),
-        _ => open_band(image, rectangle, keys, &mut spots, 0, 1, OutLink(0), whole),
+        Place::Inside => search.open_inside(keys, &mut spots, 0, 1, OutLink(0), 0),
+        _ => search.open_band(keys, &mut spots, 0, 1, OutLink(0), whole),
     }
 }
 

@@ -1,8 +1,8 @@
--- `walk::list_key` meets its contract. Assumes nothing.
+-- `walk::Search::list_key` meets its contract. Assumes nothing.
 use mathlib.Core.Path.{sym, ◌∙◌}
 use Rattle.format.specs.Seq.{cons_if, select}
 use Rattle.walk.proofs.Places.{listed_none, listed_one}
-use Rattle.walk.proofs.list_key.Goals as goal
+use Rattle.walk.proofs.Search.list_key.Goals as goal
 
 pub put-requires : goal.put-requires
 put-requires c = c.requires.1 (sym c.is_in.ensures ∙ c.if-is_in.true)

@@ -5,7 +5,7 @@ use Prim.Native.Nat.{◌-◌, ◌*◌}
 use Rattle.walk.specs.Walk.{any_key}
 use Rattle.walk.proofs.Chains.{Chain}
 use Rattle.walk.proofs.Walked.{Walk}
-use Rattle.walk.proofs.+list_below_open_inside_walk_inside.Given as goal
+use Rattle.walk.proofs.Search.+list_below_open_inside_walk_inside.Given as goal
 
 abbrev pub decreases-list_below : goal.decreases-list_below
 decreases-list_below l = 31 - 3 * l.band
@@ -17,10 +17,10 @@ abbrev pub decreases-walk_inside : goal.decreases-walk_inside
 decreases-walk_inside l = 29 - 3 * l.number
 
 abbrev pub invariant-open_inside-loop-number : goal.invariant-open_inside-loop-number
-invariant-open_inside-loop-number l = Chain l.image l.band l.prefix l.done l.initial.keys l.number l.next.0 l.key l.keys l.spots
+invariant-open_inside-loop-number l = Chain l.self.image.now l.band l.prefix l.done l.initial.keys l.number l.next.0 l.key l.keys l.spots
 
 abbrev pub invariant-walk_inside-loop-rest : goal.invariant-walk_inside-loop-rest
-invariant-walk_inside-loop-rest l = Walk l.image any_key l.number l.fn.subtrie.set l.prefix l.done l.initial.keys l.n l.next.0 l.rest l.keys l.spots
+invariant-walk_inside-loop-rest l = Walk l.self.image.now any_key l.number l.fn.subtrie.set l.prefix l.done l.initial.keys l.n l.next.0 l.rest l.keys l.spots
 
 abbrev pub decreases-walk_inside-loop-rest : goal.decreases-walk_inside-loop-rest
 decreases-walk_inside-loop-rest l = l.rest

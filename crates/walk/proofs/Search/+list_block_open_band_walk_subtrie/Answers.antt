@@ -9,19 +9,19 @@ use Rattle.walk.proofs.Endings.{power_positive}
 use Rattle.walk.proofs.Places.{listed_none}
 use Rattle.walk.proofs.Steps.{block_half, block_short, listed_same, members_cut, members_every, members_key, members_nine, members_same, place_apart, place_covers, prefix_fits, room_one, room_same, root_there, walking_start}
 use Rattle.walk.proofs.Walked.{walk_start, walk-rest, walk_first, walk_on, walk_next, walk_end, walked_link, walked_on, walked_opening, walked_room}
-use Rattle.walk.proofs.+list_block_open_band_walk_subtrie.Goals as goal
+use Rattle.walk.proofs.Search.+list_block_open_band_walk_subtrie.Goals as goal
 
 -- ---- a block
 
 pub list_block-list_key-requires : goal.list_block-list_key-requires
 list_block-list_key-requires t c =
     let p = c.requires in
-    (p.1, λ e. room_one _ _ _ _ (members_key p.0 c.if-number-eq9.true (inside c.args.rectangle) e) p.3)
+    (p.1, λ e. room_one _ _ _ _ (members_key p.0 c.if-number-eq9.true (inside c.args.self.now.rectangle) e) p.3)
 
 pub list_block-returns-then-number-eq9 : goal.list_block-returns-then-number-eq9
 list_block-returns-then-number-eq9 t c =
     let p = c.requires in
-    (listed_same (members_nine p.0 c.if-number-eq9.true (inside c.args.rectangle)) c.list_key.ensures, p.2)
+    (listed_same (members_nine p.0 c.if-number-eq9.true (inside c.args.self.now.rectangle)) c.list_key.ensures, p.2)
 
 pub list_block-overflow_mul-number : goal.list_block-overflow_mul-number
 list_block-overflow_mul-number t c = let o = c.requires.0 in omega (arith, o.to)
@@ -35,7 +35,7 @@ list_block-place_in-requires t c = let p = c.requires in (block_half p.0, p.1, b
 pub list_block-open_inside-requires : goal.list_block-open_inside-requires
 list_block-open_inside-requires t c =
     let p = c.requires in
-    (p.0, p.2, room_same _ _ _ _ (members_every _ _ _ _ (place_covers p.0 c.args.rectangle c.place_in.ensures c.in-Inside.is)) p.3)
+    (p.0, p.2, room_same _ _ _ _ (members_every _ _ _ _ (place_covers p.0 c.args.self.now.rectangle c.place_in.ensures c.in-Inside.is)) p.3)
 
 pub list_block-open_band-requires : goal.list_block-open_band-requires
 list_block-open_band-requires t c =
@@ -45,12 +45,12 @@ list_block-open_band-requires t c =
 pub list_block-returns-in-Apart : goal.list_block-returns-in-Apart
 list_block-returns-in-Apart t c =
     let p = c.requires in
-    (listed_none (members_cut _ _ _ _ (place_apart p.0 c.args.rectangle c.place_in.ensures c.in-Apart.is)), p.2)
+    (listed_none (members_cut _ _ _ _ (place_apart p.0 c.args.self.now.rectangle c.place_in.ensures c.in-Apart.is)), p.2)
 
 pub list_block-returns-in-Inside : goal.list_block-returns-in-Inside
 list_block-returns-in-Inside t c =
     let p = c.requires in
-    (listed_same (members_every _ _ _ _ (place_covers p.0 c.args.rectangle c.place_in.ensures c.in-Inside.is)) c.open_inside.ensures.0, c.open_inside.ensures.1)
+    (listed_same (members_every _ _ _ _ (place_covers p.0 c.args.self.now.rectangle c.place_in.ensures c.in-Inside.is)) c.open_inside.ensures.0, c.open_inside.ensures.1)
 
 pub list_block-returns-in-Across : goal.list_block-returns-in-Across
 list_block-returns-in-Across t c = c.open_band.ensures
@@ -70,14 +70,14 @@ open_band-walk_subtrie-requires t c =
         walking_start p.0 p.1 (ap (λ x. x.0) c.cross.ensures) c.next_subtrie-subtrie.ensures.0,
         p.2,
         c.next_subtrie-subtrie.ensures.1,
-        room_same _ _ _ _ (members_same p.0 p.1 (inside c.args.rectangle)) p.4,
+        room_same _ _ _ _ (members_same p.0 p.1 (inside c.args.self.now.rectangle)) p.4,
       ),
     )
 
 pub open_band-returns : goal.open_band-returns
 open_band-returns t c =
     let p = c.requires in
-    (listed_same (members_same p.0 p.1 (inside c.args.rectangle)) c.walk_subtrie.ensures.0, c.walk_subtrie.ensures.1)
+    (listed_same (members_same p.0 p.1 (inside c.args.self.now.rectangle)) c.walk_subtrie.ensures.0, c.walk_subtrie.ensures.1)
 
 -- ---- the walker
 

@@ -10,7 +10,7 @@ use Rattle.walk.proofs.Places.{listed_one}
 use Rattle.walk.proofs.Chains.{chain_start, chain_end, chain_walking, chain_some, chain_fits, chain_under, chain_listed, chain_key, chain_next, chain_put}
 use Rattle.walk.proofs.Steps.{members_key, room_one, room_same, root_there}
 use Rattle.walk.proofs.Walked.{walk_start, walk-rest, walk_first, walk_on, walk_next, walk_end, walked_key, walked_link, walked_on, walked_opening, walked_room}
-use Rattle.walk.proofs.+list_below_open_inside_walk_inside.Goals as goal
+use Rattle.walk.proofs.Search.+list_below_open_inside_walk_inside.Goals as goal
 
 -- ---- below an out-link
 
