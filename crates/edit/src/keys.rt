@@ -14,7 +14,7 @@ use format::{Rectangle, Refusal};
 use walk::list_members;
 use writer::write_either;
 
-// The keys with one put in at `rank`, in the first places; how many. They are listed from the second place on, and those before the new one are moved down.
+// The keys with one put in at `rank`, in the first places; how many, since memory is fixed and so there is no Vec. They are listed from the second place on, and those before the new one are moved down.
 fn keys_with(image: &[u8], key: u32, rank: usize, keys: &mut [u32]) -> usize
     requires { (Accepted image.now) × (rank ≤ key_count image.now) × (key_count image.now < length keys.old) }
     ensures { KeysIn (insert_at rank key (keys_of image.now)) keys.new result }

@@ -16,7 +16,7 @@ use keys::write_changed;
 use paged_lookup::Found;
 use records::move_records;
 
-// What is done to the list.
+// What is done to the list. An enum and no closures: the definitions say by it which list, which records and which questions an edit has (specs/Edit).
 #[derive(Clone, Copy, Debug, PartialEq, Eq)]
 pub enum Change {
     Add,

@@ -94,7 +94,8 @@ fn through_accepted(
     })
 }
 
-// The way of a key through band `band` from a root; where `accepted` is true the image is accepted, and the page is not judged again.
+// The way of a key through band `band` from a root; where `accepted` is true the image is accepted, and the page is not judged again. A flag, since as a
+// function parameter of the walk this would need `StepRight` of every band, root and figure in its contract: the walk would say it all once more.
 pub(crate) fn through(
     image: &[u8],
     band: usize,

@@ -58,7 +58,7 @@ fn walk(image: &[u8], key: u32, accepted: bool) -> Result<Found, Refusal>
         return Ok(Found::Absent { smaller: 0 });
     }
     let mut pages = [0u32; 8];
-    // the link that leads to root 0 of band 1; past an off bit the figure
+    // The link that leads to root 0 of band 1; past an off bit the figure. Two variables, since a figure goes on as a root's number too (`cross`).
     let mut link = OutLink(0);
     let mut on = true;
     let mut first = 1;

@@ -44,6 +44,7 @@ pub struct Judged {
 }
 
 // A place in a page, and whether all the key's bits so far were on: the place is then that of the key's node, else the nodes of the level before it lie left.
+// No enum of two places: both are counted up to in one way, without a branch on the key's bits (`left_end`), which an enum would have to be matched for.
 #[derive(Clone, Copy, Debug, PartialEq, Eq)]
 pub struct Position {
     pub place: usize,

@@ -21,6 +21,7 @@ pub fn repair(image: &[u8], out: &mut [u8]) -> Result<usize, Refusal>
     if out.len() < image.len() {
         return Err(Refusal::Room);
     }
+    // T's and B's in two arrays: the laws of both are one, over a list of numbers (`put_next`, proofs/Judging).
     let mut counts = [0u16; 9];
     let mut t = [0u16; 384];
     let mut b = [0u16; 384];
