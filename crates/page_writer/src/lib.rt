@@ -62,6 +62,7 @@ fn leave(page: &mut [u8], n: usize, byte: u8) -> u8
 
 // Fills in the level above the prefixes from `from` on, its last node before `end`, and puts their parents in the last places. A prefix
 // with the parent of the one after it is even and that one odd, so that its bit is twice the bit of that one.
+#[tactic(auto, using(crate::proofs::Levels::end_some, crate::proofs::Levels::start_small, crate::proofs::Levels::node_some, crate::proofs::Levels::other_small, crate::proofs::Marks::other_parent))]
 fn fill_level(page: &mut [u8], keys: &mut [u32], from: usize, end: usize) -> Level
     requires { LevelRoom page.old keys.old from end }
     ensures { LevelDone page.old keys.old from end page.new keys.new result }

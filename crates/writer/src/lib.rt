@@ -77,6 +77,7 @@ pub fn write_either(keys: &[u32], lift: u32, out: &mut [u8]) -> Result<usize, Re
 }
 
 // Question 35: the lift, if it is 1 to 999.
+#[tactic(auto, using(format::proofs::Jobs::lift_range))]
 fn asked_lift(lift: u32) -> Result<u16, Refusal>
     ensures { MatchResult result (λ kept. (kept ≡ lift) × (is_lift lift ≡ true)) (λ refusal. (refusal ≡ Lift) × (is_lift lift ≡ false)) }
 {
@@ -107,6 +108,7 @@ pub fn write(list: &[Admission], lift: u32, out: &mut [u8]) -> Result<usize, Ref
 }
 
 // The same for a caller that owns the array: an `n` above 4,096 gets a no at 35 or 14. `WrittenFirst` holds it to an array and a count.
+#[tactic(auto, using(crate::specs::Outcomes::in_array, crate::specs::Outcomes::past_array))]
 pub fn write_first(
     list: [Admission; 4096],
     n: usize,
