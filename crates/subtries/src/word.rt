@@ -12,7 +12,7 @@ pub fn top(nodes: u64) -> u32
     (nodes >> 62) as u32
 }
 
-// The on bits of `n` nodes from node `from` on, 28 nodes at a time.
+// The on bits of `n` nodes from node `from` on, 28 nodes at a time. No `for`: how many turns there are would take a division, and the last is a short one.
 pub fn on_bits_from(page: &[u8], from: usize, n: usize) -> usize
     requires { (length page.now ≡ 64) × (from < 240) × (from + n ≤ 240) }
     ensures { (result ≡ on_bits_from page.now from n) × (result ≤ 480) }

@@ -130,6 +130,7 @@ impl<'a> Search<'a> {
         let mut n = done;
         let mut next = subtrie.link;
         let mut rest = subtrie.set;
+        // No `for`: nothing is counted, each turn takes the first on bit out of the set.
         while rest != 0 {
             let ending = first_on(rest);
             rest = without(rest, ending);
@@ -199,6 +200,7 @@ impl<'a> Search<'a> {
         let mut n = done;
         let mut next = subtrie.link;
         let mut rest = subtrie.set;
+        // No `for`, as in `walk_inside`.
         while rest != 0 {
             let ending = first_on(rest);
             rest = without(rest, ending);
