@@ -41,13 +41,14 @@ impl Survey {
     }
 
     fn count(&mut self, verdict: Verdict) {
-        let place = match verdict {
-            Verdict::Refused(refusal) => self.refused.get_mut(usize::from(refusal.number())),
-            Verdict::OtherLift => Some(&mut self.other_lift),
-            Verdict::Unnoticed => Some(&mut self.unnoticed),
-        };
-        if let Some(count) = place {
-            *count = count.saturating_add(1);
+        match verdict {
+            Verdict::Refused(refusal) => {
+                if let Some(count) = self.refused.get_mut(usize::from(refusal.number())) {
+                    *count = count.saturating_add(1);
+                }
+            }
+            Verdict::OtherLift => self.other_lift = self.other_lift.saturating_add(1),
+            Verdict::Unnoticed => self.unnoticed = self.unnoticed.saturating_add(1),
         }
     }
 
