@@ -8,5 +8,5 @@ fn main(rt: HostRuntime) -> io::Result<()> {
     let n = input::read_full(&mut rt.stdin(), &mut input)?;
     let mut out = [0u8; 73745];
     let size = report::report_input(&input, n, &mut out);
-    rt.write_all(&out[0..size])
+    rt.write_all(&out[..size])
 }

@@ -1,206 +1,150 @@
 // Damaged images. One that is still accepted must be the exact image of its list and its lift, and is counted by what it is: the same list
 // and lift, where two pages alike were exchanged, the same list for another lift, or another list. In every one the eight-page lookup must do
 // what its steps say.
-use crate::ask::pick;
 use crate::eight;
-use crate::tally::{DAMAGED, OTHER_LIFT, OTHER_LIST, SAME, Tally, expect, note};
-use answers::{length_of, lift_of, member_count, refusal};
-use testing::{Random, starts_with, starts_with_bytes, whole_square};
+use crate::tally::{Kind, Tally};
+use format::{MOST_BYTES, Rectangle};
+use testing::Random;
 
-// Of the sound image: its lift, and the rank of an admission that is looked up in the damaged one.
+// Of the sound image: its keys and its lift, and the rank of an admission that is looked up in the damaged one.
 #[derive(Clone, Copy)]
-pub struct Sound {
+pub struct Sound<'a> {
+    pub keys: &'a [u32],
     pub lift: u32,
     pub rank: usize,
 }
 
-// Whether the writer makes this image of the keys, for its lift.
-fn is_image(keys: &[u32], image: &[u8]) -> bool {
-    let mut out = [0u8; format::MOST_BYTES];
-    let length = length_of(writer::write_either(keys, lift_of(image), &mut out));
-    if length != image.len() {
-        return false;
-    }
-    starts_with_bytes(&out, image)
+// A change of a byte: the bits that are turned over.
+#[derive(Clone, Copy)]
+pub struct Flip {
+    pub at: usize,
+    pub by: u8,
 }
 
-// What an accepted image is, by its list and whether its lift is the one before the damage.
-fn kind(listed: &[u32], keys: &[u32], same_lift: bool) -> usize {
-    if listed.len() != keys.len() {
-        return OTHER_LIST;
+impl Flip {
+    pub fn turn(self, image: &mut [u8]) {
+        if let Some(byte) = image.get_mut(self.at) {
+            *byte ^= self.by;
+        }
     }
-    if !starts_with(listed, keys) {
-        return OTHER_LIST;
-    }
-    if same_lift { SAME } else { OTHER_LIFT }
 }
 
-// The judgement of an accepted image: whether it is what the writer makes of its listing, and what it is.
-fn judge_accepted(tally: Tally, image: &[u8], keys: &[u32], lift: u32) -> Tally {
-    let mut places = [0u32; 4096];
-    let n = member_count(query::list(image, whole_square(), &mut places));
-    if 4096 < n {
-        return expect(tally, DAMAGED, false);
-    }
-    let listed = &places[0..n];
-    let t = expect(tally, DAMAGED, is_image(listed, image));
-    note(t, kind(listed, keys, lift_of(image) == lift))
+// Whether the writer makes this image of the keys for a lift.
+fn is_image(keys: &[u32], lift: u32, image: &[u8]) -> bool {
+    let mut out = [0; MOST_BYTES];
+    let written = writer::write_either(keys, lift, &mut out);
+    written == Ok(image.len()) && out.starts_with(image)
 }
 
-// The judgement of a damaged image of the keys.
-fn judge(tally: Tally, image: &[u8], keys: &[u32], sound: Sound) -> Tally {
-    let t = eight::ask_damaged(tally, image, keys, sound.rank);
-    let n = refusal(image);
-    if n != 0 {
-        return note(expect(t, DAMAGED, true), n as usize);
-    }
-    judge_accepted(t, image, keys, sound.lift)
-}
-
-// Some bits of a byte changed.
-pub fn flip(image: &mut [u8], at: usize, by: u8) {
-    if image.len() <= at {
+// The judgement of an accepted image: whether it is what the writer makes of its listing for its lift, and what it is.
+fn judge_accepted(tally: &mut Tally, image: &[u8], sound: Sound) {
+    let mut places = [0; 4096];
+    let listed = query::list(image, Rectangle::whole_square(), &mut places);
+    let listed = listed.ok().and_then(|n| places.get(..n));
+    let lift = checker::lift(image)
+        .ok()
+        .and_then(|lift| u32::try_from(lift).ok());
+    let (Some(listed), Some(lift)) = (listed, lift) else {
+        tally.expect(Kind::Damaged, false);
         return;
-    }
-    image[at] = image[at] ^ by;
+    };
+    tally.expect(Kind::Damaged, is_image(listed, lift, image));
+    tally.note(if listed != sound.keys {
+        Kind::OtherList
+    } else if lift != sound.lift {
+        Kind::OtherLift
+    } else {
+        Kind::Same
+    });
 }
 
-// The image with byte `at` changed, judged; the byte is changed back.
-pub fn change(
-    tally: Tally,
-    image: &mut [u8],
-    keys: &[u32],
-    sound: Sound,
-    at: usize,
-    by: u8,
-) -> Tally {
-    if image.len() <= at {
-        return tally;
+// The judgement of a damaged image.
+fn judge(tally: &mut Tally, image: &[u8], sound: Sound) {
+    eight::ask_damaged(tally, image, sound.keys, sound.rank);
+    match checker::check(image) {
+        Ok(_) => judge_accepted(tally, image, sound),
+        Err(refusal) => {
+            tally.expect(Kind::Damaged, true);
+            tally.note_refused(refusal);
+        }
     }
-    flip(image, at, by);
-    let t = judge(tally, image, keys, sound);
-    flip(image, at, by);
-    t
 }
 
-// Two bytes exchanged.
-fn exchange(image: &mut [u8], a: usize, b: usize) {
-    if image.len() <= a {
-        return;
+// The image with a byte changed, judged; the byte is changed back.
+pub fn change(tally: &mut Tally, image: &mut [u8], sound: Sound, flip: Flip) {
+    if flip.at < image.len() {
+        flip.turn(image);
+        judge(tally, image, sound);
+        flip.turn(image);
     }
-    if image.len() <= b {
-        return;
+}
+
+// Each of the bytes changed in turn.
+pub fn change_each(tally: &mut Tally, image: &mut [u8], sound: Sound, flips: [Flip; 5]) {
+    for flip in flips {
+        change(tally, image, sound, flip);
     }
-    let byte = image[a];
-    image[a] = image[b];
-    image[b] = byte;
 }
 
 // The place of a byte of a page.
 pub fn place(page: usize, byte: usize) -> usize {
-    64 * (page % 65536) + byte % 64
+    page.saturating_mul(64).saturating_add(byte % 64)
 }
 
 // Two pages exchanged.
 fn swap_pages(image: &mut [u8], a: usize, b: usize) {
-    let mut i: usize = 0;
-    while i < 64 {
-        exchange(image, place(a, i), place(b, i));
-        i += 1;
+    for i in 0..64 {
+        let first = place(a, i);
+        let second = place(b, i);
+        if first < image.len() && second < image.len() {
+            image.swap(first, second);
+        }
     }
 }
 
 // Two pages exchanged, judged, and exchanged again.
-pub fn swap(
-    tally: Tally,
-    image: &mut [u8],
-    keys: &[u32],
-    sound: Sound,
-    a: usize,
-    b: usize,
-) -> Tally {
-    if a == b {
-        return tally;
+pub fn swap(tally: &mut Tally, image: &mut [u8], sound: Sound, a: usize, b: usize) {
+    if a != b {
+        swap_pages(image, a, b);
+        judge(tally, image, sound);
+        swap_pages(image, a, b);
     }
-    swap_pages(image, a, b);
-    let t = judge(tally, image, keys, sound);
-    swap_pages(image, a, b);
-    t
-}
-
-// The first bytes only.
-fn truncate(tally: Tally, image: &[u8], keys: &[u32], sound: Sound, size: usize) -> Tally {
-    if image.len() <= size {
-        return tally;
-    }
-    judge(tally, &image[0..size], keys, sound)
 }
 
 // The bit of a byte.
 pub fn bit(random: Random) -> u8 {
-    let bits: [u8; 8] = [1, 2, 4, 8, 16, 32, 64, 128];
-    bits[pick(random, 8) % 8]
+    1 << (random.pick(8) % 8)
 }
 
-// Any byte, a byte of the header, and T, B and the first nodes of a page.
-fn places(random: Random, bytes: usize, page: usize) -> [usize; 5] {
-    [
-        pick(random, bytes),
-        pick(random, 64),
-        place(page, 1),
-        place(page, 3),
-        place(page, 4),
-    ]
-}
-
-// Each of the bytes changed in turn.
-pub fn change_each(
-    tally: Tally,
-    image: &mut [u8],
-    keys: &[u32],
-    sound: Sound,
-    at: [usize; 5],
-    by: [u8; 5],
-) -> Tally {
-    let mut t = tally;
-    let mut i: usize = 0;
-    while i < 5 {
-        t = change(t, image, keys, sound, at[i], by[i]);
-        i += 1;
-    }
-    t
-}
-
-// A bit of each of these bytes, two pages exchanged, and the end cut off.
-fn damage_at(
-    tally: Tally,
-    image: &mut [u8],
-    keys: &[u32],
-    sound: Sound,
-    random: Random,
-    other: Random,
-) -> Tally {
+// A bit of any byte, of a byte of the header, and of T, B and the first nodes of a page, two pages exchanged, and the end cut off.
+fn damage_at(tally: &mut Tally, image: &mut [u8], sound: Sound, random: Random, other: Random) {
     let bytes = image.len();
-    let page = pick(random, bytes / 64);
+    let page = random.pick(bytes / 64);
     let by = bit(other);
-    let at = places(random, bytes, page);
-    let mut t = change_each(tally, image, keys, sound, at, [by, by, 1, 1, by]);
-    t = swap(t, image, keys, sound, page, pick(other, bytes / 64));
-    truncate(t, image, keys, sound, pick(other, bytes))
+    let flips = [
+        (random.pick(bytes), by),
+        (random.pick(64), by),
+        (place(page, 1), 1),
+        (place(page, 3), 1),
+        (place(page, 4), by),
+    ];
+    change_each(tally, image, sound, flips.map(|(at, by)| Flip { at, by }));
+    swap(tally, image, sound, page, other.pick(bytes / 64));
+    let size = other.pick(bytes);
+    if size < bytes {
+        judge(tally, &image[..size], sound);
+    }
 }
 
 // 40 random places of the image of the keys for a lift.
-pub fn damage(tally: Tally, image: &mut [u8], keys: &[u32], lift: u32, seed: Random) -> Tally {
-    let mut t = tally;
+pub fn damage(tally: &mut Tally, image: &mut [u8], keys: &[u32], lift: u32, seed: Random) {
     let mut random = seed;
-    let mut i: u32 = 0;
-    while i < 40 {
-        random = testing::next(random);
-        let other = testing::next(random);
-        let rank = pick(other, keys.len());
-        t = damage_at(t, image, keys, Sound { lift, rank }, random, other);
-        random = testing::next(other);
-        i += 1;
+    for _ in 0..40 {
+        random = random.next();
+        let other = random.next();
+        let rank = other.pick(keys.len());
+        let sound = Sound { keys, lift, rank };
+        damage_at(tally, image, sound, random, other);
+        random = other.next();
     }
-    t
 }

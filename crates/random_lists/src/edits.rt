@@ -1,231 +1,120 @@
 // Long rows of sales and withdrawals, against the sorted array: each answer, the new image beside the one that is written for the changed list, and every
 // record and lane's count; after each that is done a card is scanned, so that the next one finds another record.
-use crate::ask::{is_at, pick};
-use crate::books::{Books, books_of, with_key, with_outputs, without_key};
+use crate::books::Books;
 use crate::cards::{card_of, scan_card};
-use crate::tally::{CARDS_AFTER, REFUSED_EDITS, SALES, Tally, WITHDRAWALS, expect};
-use answers::{edit_first, length_of, refusal_of, write_first};
+use crate::list::List;
+use crate::tally::{Kind, Tally};
+use answers::edit_key;
 use edit::Change;
-use testing::{Random, starts_with, starts_with_bytes};
-use writer::Written;
+use format::{MOST_BYTES, Refusal};
+use std::alloc::{AllocError, Global};
+use testing::{Random, rank_of};
 
-// The row so far.
-#[derive(Drop)]
-struct Row {
-    tally: Tally,
-    books: Books,
-}
-
-// An edit, and what it left in its outputs.
+// An edit, and what it left in its outputs: bytes 0xee and elements 77 at first.
 #[derive(Clone, Copy)]
 struct Outputs {
-    edited: Written,
-    image: [u8; format::MOST_BYTES],
+    edited: Result<usize, Refusal>,
+    image: [u8; MOST_BYTES],
     records: [u32; 4105],
 }
 
-// The edit, into bytes 0xee and elements 77.
-fn edit_books(books: Books, change: Change, key: u32) -> Outputs {
-    let mut new_image = [0xeeu8; format::MOST_BYTES];
-    let mut new_records = [77u32; 4105];
-    let image = books.image;
-    let records = books.records;
-    let edited = edit_first(
-        change,
-        &image,
-        books.length,
-        &records,
-        books.n % 65536 + 8,
-        key,
-        &mut new_image,
-        &mut new_records,
-    );
-    Outputs {
-        edited,
-        image: new_image,
-        records: new_records,
-    }
-}
-
-// The number of the refusal that is due, or 0.
-fn due(change: Change, n: usize, listed: bool) -> u8 {
-    match change {
-        Change::Add => {
-            if listed {
-                return 30;
-            }
-            if n < 4096 { 0 } else { 14 }
-        }
-        Change::Withdraw => {
-            if listed {
-                return 0;
-            }
-            30
+impl Outputs {
+    fn lent() -> Outputs {
+        Outputs {
+            edited: Ok(0),
+            image: [0xee; MOST_BYTES],
+            records: [77; 4105],
         }
     }
-}
 
-// Whether the outputs are as they were lent.
-fn are_lent(outputs: Outputs) -> bool {
-    let image = outputs.image;
-    let records = outputs.records;
-    starts_with_bytes(&image, &[0xeeu8; format::MOST_BYTES])
-        && starts_with(&records, &[77u32; 4105])
-}
-
-// Whether the outputs are the books': the image of their keys for a lift, their records, and what lies past the ends as lent.
-fn are_books(outputs: Outputs, books: Books, lift: u32) -> bool {
-    let mut expected = [0xeeu8; format::MOST_BYTES];
-    let keys = books.keys;
-    let length = write_first(&keys, books.n, lift, &mut expected);
-    let edited = outputs.edited;
-    if length_of(edited) != length {
-        return false;
+    fn edit(&mut self, books: &Books, change: Change, key: u32) {
+        self.edited = edit_key(
+            change,
+            &books.image,
+            &books.gate.records,
+            key,
+            &mut self.image,
+            &mut self.records,
+        );
     }
-    let image = outputs.image;
-    let records = outputs.records;
-    let expected_records = books.expected;
-    0 < length && starts_with_bytes(&image, &expected) && starts_with(&records, &expected_records)
+
+    // Whether both buffers are these, to their ends.
+    fn are(&self, other: &Outputs) -> bool {
+        self.image == other.image && self.records == other.records
+    }
+
+    // Whether the outputs are the books': the image of their keys for their lift, and their records.
+    fn are_books(&self, books: &Books) -> bool {
+        let mut expected = Outputs::lent();
+        let written = writer::write_either(&books.keys, books.lift, &mut expected.image);
+        for (element, record) in expected.records.iter_mut().zip(&books.gate.expected) {
+            *element = *record;
+        }
+        written.is_ok() && self.edited == written && self.are(&expected)
+    }
 }
 
-// The books after the edit.
-fn changed(books: Books, change: Change, rank: usize, key: u32) -> Books {
+// The refusal that is due.
+fn due(change: Change, n: usize, is_listed: bool) -> Option<Refusal> {
     match change {
-        Change::Add => with_key(books, rank, key),
-        Change::Withdraw => without_key(books, rank),
+        Change::Add if is_listed => Some(Refusal::Change),
+        Change::Add if 4096 <= n => Some(Refusal::More),
+        Change::Withdraw if !is_listed => Some(Refusal::Change),
+        _ => None,
     }
 }
 
-fn place_of(change: Change) -> usize {
+fn kind_of(change: Change) -> Kind {
     match change {
-        Change::Add => SALES,
-        Change::Withdraw => WITHDRAWALS,
-    }
-}
-
-// The number of smaller keys among the first `n`, and whether the key is one of these.
-#[derive(Drop)]
-struct Rank {
-    smaller: usize,
-    listed: bool,
-}
-
-fn rank_in(keys: &[u32], n: usize, key: u32) -> Rank {
-    if keys.len() < n {
-        return Rank {
-            smaller: 0,
-            listed: false,
-        };
-    }
-    let smaller = testing::rank_of(keys, n, key);
-    Rank {
-        smaller,
-        listed: is_at(&keys[0..n], smaller, key),
+        Change::Add => Kind::Sales,
+        Change::Withdraw => Kind::Withdrawals,
     }
 }
 
 // A turn of the row: the edit beside the books.
-fn turn(row: Row, change: Change, key: u32, lift: u32) -> Row {
-    let books = row.books;
-    let keys = books.keys;
-    let rank = rank_in(&keys, books.n, key);
-    let refusal = due(change, books.n, rank.listed);
-    let outputs = edit_books(books, change, key);
-    let edited = outputs.edited;
-    if refusal != 0 {
-        let is_right = refusal_of(edited) == refusal && are_lent(outputs);
-        return Row {
-            tally: expect(row.tally, REFUSED_EDITS, is_right),
-            books,
-        };
+fn turn(
+    tally: &mut Tally,
+    alloc: Global,
+    books: &mut Books,
+    change: Change,
+    key: u32,
+) -> Result<(), AllocError> {
+    let rank = rank_of(&books.keys, key);
+    let is_listed = books.keys.get(rank) == Some(&key);
+    let mut outputs = Outputs::lent();
+    outputs.edit(books, change, key);
+    if let Some(refusal) = due(change, books.keys.len(), is_listed) {
+        let is_right = outputs.edited == Err(refusal) && outputs.are(&Outputs::lent());
+        tally.expect(Kind::RefusedEdits, is_right);
+        return Ok(());
     }
-    let after = changed(books, change, rank.smaller, key);
-    let is_right = are_books(outputs, after, lift);
-    let image = outputs.image;
-    let records = outputs.records;
-    Row {
-        tally: expect(row.tally, place_of(change), is_right),
-        books: with_outputs(after, image, length_of(edited), records),
-    }
-}
-
-// Whether a card of a rank gets the plain rule's answer, with the first `n` keys, the first `length` bytes, and as many records.
-fn is_scanned(
-    keys: &[u32],
-    n: usize,
-    lift: u32,
-    image: &[u8],
-    length: usize,
-    records: &mut [u32],
-    expected: &mut [u32],
-    rank: usize,
-    time: u32,
-) -> bool {
-    let elements = n % 65536 + 8;
-    if keys.len() < n {
-        return false;
-    }
-    if image.len() < length {
-        return false;
-    }
-    if records.len() < elements {
-        return false;
-    }
-    if expected.len() < elements {
-        return false;
-    }
-    let card = card_of(&image[0..length], lift, rank, time, 100, 1 + time % 8);
-    let compared = scan_card(
-        &keys[0..n],
-        lift,
-        &image[0..length],
-        &mut records[0..elements],
-        &mut expected[0..elements],
-        card,
-    );
-    compared.is_right
+    books.change(change, rank, key)?;
+    let is_right = outputs.are_books(books);
+    tally.expect(kind_of(change), is_right);
+    let length = outputs.edited.unwrap_or(0);
+    books.image = Vec::from_slice(alloc, outputs.image.get(..length).unwrap_or(&[]))?;
+    let elements = books.gate.expected.len();
+    books.gate.records = Vec::from_slice(alloc, outputs.records.get(..elements).unwrap_or(&[]))?;
+    Ok(())
 }
 
 // A card after it, at the gate and by the plain rule.
-fn scan_after(row: Row, rank: usize, lift: u32, time: u32) -> Row {
-    let books = row.books;
-    let keys = books.keys;
-    let image = books.image;
-    let mut records = books.records;
-    let mut expected = books.expected;
-    let is_right = is_scanned(
-        &keys,
-        books.n,
-        lift,
-        &image,
-        books.length,
-        &mut records,
-        &mut expected,
-        rank,
-        time,
-    );
-    Row {
-        tally: expect(row.tally, CARDS_AFTER, is_right),
-        books: Books {
-            keys,
-            n: books.n,
-            image,
-            length: books.length,
-            records,
-            expected,
-        },
-    }
+fn scan_after(tally: &mut Tally, books: &mut Books, rank: usize, time: u32) {
+    let list = List {
+        keys: &books.keys,
+        lift: books.lift,
+        image: &books.image,
+    };
+    let card = card_of(list, rank, time, 100, 1 + time % 8);
+    let compared = scan_card(list, &mut books.gate, card);
+    tally.expect(Kind::CardsAfter, compared.is_right);
 }
 
-// A key: listed, beside a listed one, somewhere near it, or anywhere.
-fn pick_key(books: Books, random: Random, turn: u32) -> u32 {
+// A key: listed, beside a listed one, somewhere near it, or anywhere. In an empty list the key that was withdrawn last stands for a listed one.
+fn pick_key(books: &Books, random: Random, turn: u32) -> u32 {
     let any = (random.state % 2147483648) as u32;
-    let keys = books.keys;
-    let rank = pick(random, books.n);
-    if 4097 <= rank {
-        return any;
-    }
-    let key = keys[rank];
+    let rank = random.pick(books.keys.len());
+    let key = books.keys.get(rank).copied().unwrap_or(books.withdrawn);
     match turn % 4 {
         0 => key,
         1 => key ^ 1,
@@ -237,29 +126,25 @@ fn pick_key(books: Books, random: Random, turn: u32) -> u32 {
 // Three withdrawals for every four sales.
 fn pick_change(random: Random) -> Change {
     if random.state / 7 % 7 < 4 {
-        return Change::Add;
+        Change::Add
+    } else {
+        Change::Withdraw
     }
-    Change::Withdraw
 }
 
-// 150 turns on a list, with its image for a lift.
-pub fn edits(tally: Tally, keys: &[u32], lift: u32, seed: Random) -> Tally {
-    let mut row = Row {
-        tally,
-        books: books_of(keys, lift, seed),
-    };
+// 150 turns on a list.
+pub fn edits(tally: &mut Tally, alloc: Global, list: List, seed: Random) -> Result<(), AllocError> {
+    let mut books = Books::new(alloc, list, seed)?;
     let mut random = seed;
-    let mut i: u32 = 0;
-    while i < 150 {
-        random = testing::next(random);
+    for i in 0..150 {
+        random = random.next();
         let change = pick_change(random);
-        random = testing::next(random);
-        let key = pick_key(row.books, random, i);
-        row = turn(row, change, key, lift);
-        random = testing::next(random);
-        let books = row.books;
-        row = scan_after(row, pick(random, books.n), lift, 4000 + 20 * i);
-        i += 1;
+        random = random.next();
+        let key = pick_key(&books, random, i);
+        turn(tally, alloc, &mut books, change, key)?;
+        random = random.next();
+        let rank = random.pick(books.keys.len());
+        scan_after(tally, &mut books, rank, 4000 + 20 * i);
     }
-    row.tally
+    Ok(())
 }

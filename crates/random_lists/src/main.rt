@@ -11,8 +11,8 @@ mod damage;
 mod edits;
 mod eight;
 mod history;
-mod leaving;
 mod links;
+mod list;
 mod pairs;
 mod path;
 mod patience;
@@ -23,123 +23,131 @@ mod steps;
 mod tally;
 mod trial;
 
+use answers::image_of;
+use list::List;
+use std::alloc::{AllocError, Global};
 use std::io::{self, Stdout};
-use tally::{LISTS, Tally, expect};
+use tally::{Kind, Tally};
 use testing::Random;
 
-// All jobs on the image of a list for a lift.
-fn read(tally: Tally, keys: &[u32], lift: u32, image: &[u8], seed: Random) -> Tally {
-    let mut t = ask::whole(tally, keys, image);
-    t = ask::ask(t, keys, image, seed);
-    t = pairs::pairs(t, keys, image, seed);
-    t = history::history(t, keys, lift, image, seed);
-    edits::edits(t, keys, lift, seed)
-}
-
-// The same, and its damaged images.
-fn compare(tally: Tally, keys: &[u32], lift: u32, image: &mut [u8], seed: Random) -> Tally {
-    let mut t = read(tally, keys, lift, image, seed);
-    t = damage::damage(t, image, keys, lift, seed);
-    path::damage(t, image, keys, lift, seed)
+// All jobs on the image of a list, and its damaged images.
+fn compare(tally: &mut Tally, alloc: Global, list: List, seed: Random) -> Result<(), AllocError> {
+    ask::whole(tally, list);
+    ask::ask(tally, list, seed);
+    pairs::pairs(tally, alloc, list, seed)?;
+    history::history(tally, alloc, list, seed)?;
+    edits::edits(tally, alloc, list, seed)?;
+    let mut image = Vec::from_slice(alloc, list.image)?;
+    damage::damage(tally, &mut image, list.keys, list.lift, seed);
+    path::damage(tally, &mut image, list.keys, list.lift, seed);
+    Ok(())
 }
 
 // Writes the image of the keys for a lift, 0 for version 1, and compares.
-fn compare_list(tally: Tally, keys: &[u32], lift: u32, seed: Random) -> Tally {
-    let mut image = [0u8; format::MOST_BYTES];
-    let length = answers::length_of(writer::write_either(keys, lift, &mut image));
-    if length < 64 {
-        return expect(tally, LISTS, false);
-    }
-    if format::MOST_BYTES < length {
-        return expect(tally, LISTS, false);
-    }
-    let is_right = answers::lift_of(&image[0..length]) == lift;
-    compare(
-        expect(tally, LISTS, is_right),
+fn compare_list(
+    tally: &mut Tally,
+    alloc: Global,
+    keys: &[u32],
+    lift: u32,
+    seed: Random,
+) -> Result<(), AllocError> {
+    let Some(image) = image_of(alloc, keys, lift)? else {
+        tally.expect(Kind::Lists, false);
+        return Ok(());
+    };
+    let has_lift = checker::lift(&image) == Ok(lift as usize);
+    tally.expect(Kind::Lists, has_lift);
+    let list = List {
         keys,
         lift,
-        &mut image[0..length],
-        seed,
-    )
+        image: &image,
+    };
+    compare(tally, alloc, list, seed)
 }
 
-// The list of the first `n` keys.
-fn list(tally: Tally, keys: &[u32], n: usize, lift: u32, seed: Random) -> Tally {
-    if keys.len() < n {
-        return expect(tally, LISTS, false);
+// How the keys of a list are drawn.
+#[derive(Clone, Copy)]
+enum Shape {
+    // Each 1 to `gap` above the one before it.
+    Spaced { first: u32, gap: u32 },
+    // Of holders who each have about `each` half-days of a season.
+    Clustered { season: u32, each: u32 },
+    NoKeys,
+}
+
+impl Shape {
+    // Puts the keys into the first places. Returns how many.
+    fn draw(self, keys: &mut [u32], seed: Random) -> usize {
+        match self {
+            Shape::Spaced { first, gap } => testing::spaced(keys, first, gap, seed),
+            Shape::Clustered { season, each } => testing::clustered(keys, 4096, season, each, seed),
+            Shape::NoKeys => 0,
+        }
     }
-    compare_list(tally, &keys[0..n], lift, seed)
+
+    // The list of all keys, and of fewer, each for another lift; one in version 1.
+    fn sizes(self, n: usize) -> [Option<(usize, u32)>; 4] {
+        match self {
+            Shape::NoKeys => [Some((0, 500)), None, None, None],
+            _ => [
+                Some((n, 999)),
+                Some((n / 3, 0)),
+                Some((n / 50, 258)),
+                Some((n / 2000, 1)),
+            ],
+        }
+    }
 }
 
-// Lists of several sizes with keys 1 to `gap` apart.
-fn spaced(out: Stdout, name: &[u8], first: u32, gap: u32, state: u64) -> io::Result<u32> {
-    let mut keys = [0u32; 4096];
-    let seed = Random { state };
-    let n = testing::spaced(&mut keys, first, gap, seed);
-    sizes(out, name, &keys, n, seed)
+// The lists of a shape. Returns the differences.
+fn compare_shape(
+    out: Stdout,
+    alloc: Global,
+    name: &str,
+    shape: Shape,
+    seed: Random,
+) -> io::Result<u32> {
+    let mut keys = vec![in alloc; 0; 4096]?;
+    let n = shape.draw(&mut keys, seed);
+    keys.truncate(n);
+    let mut tally = Tally::new();
+    for (size, lift) in shape.sizes(n).into_iter().flatten() {
+        if let Some(keys) = keys.as_slice().get(..size) {
+            compare_list(&mut tally, alloc, keys, lift, seed)?;
+        }
+    }
+    tally.say(out, name)?;
+    Ok(tally.count(Kind::Differences))
 }
 
-// Lists of holders who each have about `each` half-days of a season.
-fn clustered(out: Stdout, name: &[u8], season: u32, each: u32, state: u64) -> io::Result<u32> {
-    let mut keys = [0u32; 4096];
-    let seed = Random { state };
-    let n = testing::clustered(&mut keys, 4096, season, each, seed);
-    sizes(out, name, &keys, n, seed)
+fn spaced(first: u32, gap: u32) -> Shape {
+    Shape::Spaced { first, gap }
 }
 
-// The list of all keys, and of fewer, each for another lift; one in version 1.
-fn sizes(out: Stdout, name: &[u8], keys: &[u32], n: usize, seed: Random) -> io::Result<u32> {
-    let mut t = list(tally::none(), keys, n, 999, seed);
-    t = list(t, keys, n / 3, 0, seed);
-    t = list(t, keys, n / 50, 258, seed);
-    t = list(t, keys, n / 2000, 1, seed);
-    tally::say(out, t, name)?;
-    Ok(tally::differences(t))
-}
-
-fn sum(a: u32, b: u32) -> u32 {
-    (a % 1000000000) + (b % 1000000000)
-}
-
-// The differences of the lists of spaced keys.
-fn spaced_lists(out: Stdout) -> io::Result<u32> {
-    let mut d = spaced(out, b"every key", 0, 1, 1)?;
-    d = sum(d, spaced(out, b"keys 1 to 3 apart", 77, 3, 2)?);
-    d = sum(d, spaced(out, b"keys 1 to 40 apart", 4000000000, 40, 3)?);
-    d = sum(d, spaced(out, b"keys 1 to 3,000 apart", 5, 3000, 4)?);
-    let wide = spaced(out, b"keys 1 to 2,000,000 apart", 12345, 2000000, 5)?;
-    Ok(sum(d, wide))
-}
-
-// The differences of the lists of holders.
-fn clustered_lists(out: Stdout) -> io::Result<u32> {
-    let mut d = clustered(out, b"20 half-days of 360 for each holder", 360, 20, 6)?;
-    d = sum(
-        d,
-        clustered(out, b"2 half-days of 300 for each holder", 300, 2, 7)?,
-    );
-    let long = clustered(
-        out,
-        b"400 half-days of 65,536 for each holder",
-        65536,
-        400,
-        8,
-    )?;
-    Ok(sum(d, long))
-}
-
-// The differences of the list without keys.
-fn empty_list(out: Stdout) -> io::Result<u32> {
-    let keys = [0u32; 1];
-    let t = list(tally::none(), &keys, 0, 500, Random { state: 9 });
-    tally::say(out, t, b"no keys")?;
-    Ok(tally::differences(t))
+fn clustered(season: u32, each: u32) -> Shape {
+    Shape::Clustered { season, each }
 }
 
 fn main(rt: HostRuntime) -> io::Result<()> {
-    let out = rt.stdout();
-    let spaced = spaced_lists(out)?;
-    let clustered = clustered_lists(out)?;
-    let d = sum(sum(spaced, clustered), empty_list(out)?);
-    println!(out; "{d} differences")
+    let mut differences: u32 = 0;
+    for (state, name, shape) in [
+        (1, "every key", spaced(0, 1)),
+        (2, "keys 1 to 3 apart", spaced(77, 3)),
+        (3, "keys 1 to 40 apart", spaced(4000000000, 40)),
+        (4, "keys 1 to 3,000 apart", spaced(5, 3000)),
+        (5, "keys 1 to 2,000,000 apart", spaced(12345, 2000000)),
+        (6, "20 half-days of 360 for each holder", clustered(360, 20)),
+        (7, "2 half-days of 300 for each holder", clustered(300, 2)),
+        (
+            8,
+            "400 half-days of 65,536 for each holder",
+            clustered(65536, 400),
+        ),
+        (9, "no keys", Shape::NoKeys),
+    ] {
+        let seed = Random { state };
+        let more = compare_shape(rt.stdout(), rt.alloc(), name, shape, seed)?;
+        differences = differences.saturating_add(more);
+    }
+    println!(rt; "{differences} differences")
 }

@@ -1,27 +1,28 @@
 // Damage on the path of an admission: to the page that it reads in a band, to the first page of that band, and to the counts that are asked there.
-use crate::ask::pick;
-use crate::damage::{Sound, bit, change, change_each, flip, place, swap};
+use crate::damage::{Flip, Sound, bit, change, change_each, place, swap};
 use crate::eight::key_at;
-use crate::plain::first_page;
+use crate::plain::Plain;
 use crate::steps;
 use crate::tally::Tally;
+use paged_lookup::Found;
 use testing::{Random, holder_of, slot_of};
 
-// The page that the admission of a key reads in a band, counted from 0; 0 where it is not listed.
-fn page_on_path(image: &[u8], key: u32, band: usize) -> usize {
-    let found = steps::lookup(image, holder_of(key), slot_of(key));
-    let pages = found.pages;
-    pages[band % 8] as usize
+// The page that the admission of a key reads in a band, where it is listed.
+fn page_on_path(image: &[u8], key: u32, band: usize) -> Option<usize> {
+    match steps::lookup(image, holder_of(key), slot_of(key)) {
+        Ok(Found::Listed { pages, .. }) => Some(pages[band % 8] as usize),
+        _ => None,
+    }
 }
 
 // The place of the number where a page's roots end: the next page's T, or for a band's last page the band's root count.
 fn roots_end(image: &[u8], page: usize, band: usize) -> usize {
-    let b = band % 8;
-    let next = page % 65536 + 1;
-    if next < first_page(image, b + 1) {
+    let band = band % 8;
+    let next = page.saturating_add(1);
+    if next < (Plain { image }).first_page(band + 1) {
         place(next, 1)
     } else {
-        11 + 4 * b
+        11 + 4 * band
     }
 }
 
@@ -36,77 +37,76 @@ fn page_places(page: usize, end: usize, node: usize) -> [usize; 5] {
     ]
 }
 
-// The place of the number that is asked on leaving a band: the next band's root count, or out of the last band the key count.
-fn limit_place(band: usize) -> usize {
-    if band == 7 { 6 } else { 14 + 4 * (band % 8) }
-}
-
-// T of the band's first page, the band's root count, and what is asked on leaving it.
-fn band_places(image: &[u8], band: usize) -> [usize; 5] {
-    let b = band % 8;
-    let limit = limit_place(b) % 64;
+// T of the band's first page, the band's root count, and what is asked on leaving it: the next band's root count, or out of the last band the key count.
+fn band_places(first_page: usize, band: usize) -> [usize; 5] {
+    let band = band % 8;
+    let limit = if band == 7 { 6 } else { 14 + 4 * band };
     [
-        place(first_page(image, b), 1),
-        10 + 4 * b,
-        11 + 4 * b,
+        place(first_page, 1),
+        10 + 4 * band,
+        11 + 4 * band,
         limit,
         limit + 1,
     ]
 }
 
-// A page's T and where its roots end changed alike, and changed back: often the page then has as many roots as before, under other numbers.
-fn change_both(
-    tally: Tally,
-    image: &mut [u8],
-    keys: &[u32],
-    sound: Sound,
-    page: usize,
-    end: usize,
-    by: u8,
-) -> Tally {
-    let at = place(page, 1);
-    flip(image, at, by);
-    let t = change(tally, image, keys, sound, end, by);
-    flip(image, at, by);
-    t
+fn flips(at: [usize; 5], by: [u8; 5]) -> [Flip; 5] {
+    [
+        Flip {
+            at: at[0],
+            by: by[0],
+        },
+        Flip {
+            at: at[1],
+            by: by[1],
+        },
+        Flip {
+            at: at[2],
+            by: by[2],
+        },
+        Flip {
+            at: at[3],
+            by: by[3],
+        },
+        Flip {
+            at: at[4],
+            by: by[4],
+        },
+    ]
 }
 
-// All this for the page that a rank's admission reads in a band. The page is exchanged with the band's first too, so that its T's are out of order.
-fn damage_page(
-    tally: Tally,
-    image: &mut [u8],
-    keys: &[u32],
-    sound: Sound,
-    band: usize,
-    random: Random,
-) -> Tally {
-    let page = page_on_path(image, key_at(keys, sound.rank), band);
-    if page == 0 {
-        return tally;
-    }
+// All this for the page that a rank's admission reads in a band. A page's T and where its roots end are changed alike too: often the page then has as many
+// roots as before, under other numbers. The page is exchanged with the band's first too, so that its T's are out of order.
+fn damage_page(tally: &mut Tally, image: &mut [u8], sound: Sound, band: usize, random: Random) {
+    let Some(page) = page_on_path(image, key_at(sound.keys, sound.rank), band) else {
+        return;
+    };
     let a = bit(random);
-    let b = bit(testing::next(random));
+    let b = bit(random.next());
     let end = roots_end(image, page, band);
-    let numbers = page_places(page, end, pick(random, 60));
-    let counts = band_places(image, band);
-    let first = first_page(image, band % 8);
-    let mut t = change_each(tally, image, keys, sound, numbers, [a, 1, a, b, b]);
-    t = change_each(t, image, keys, sound, counts, [b, 1, a, 1, b]);
-    t = change_both(t, image, keys, sound, page, end, a);
-    swap(t, image, keys, sound, page, first)
+    let first = Plain { image }.first_page(band % 8);
+    let numbers = page_places(page, end, random.pick(60));
+    change_each(tally, image, sound, flips(numbers, [a, 1, a, b, b]));
+    let counts = band_places(first, band);
+    change_each(tally, image, sound, flips(counts, [b, 1, a, 1, b]));
+    let t = Flip {
+        at: place(page, 1),
+        by: a,
+    };
+    t.turn(image);
+    change(tally, image, sound, Flip { at: end, by: a });
+    t.turn(image);
+    swap(tally, image, sound, page, first);
 }
 
 // 24 ranks, the bands in turn.
-pub fn damage(tally: Tally, image: &mut [u8], keys: &[u32], lift: u32, seed: Random) -> Tally {
-    let mut t = tally;
+pub fn damage(tally: &mut Tally, image: &mut [u8], keys: &[u32], lift: u32, seed: Random) {
     let mut random = seed;
-    let mut i: usize = 0;
-    while i < 24 {
-        random = testing::next(random);
-        let rank = pick(random, keys.len());
-        random = testing::next(random);
-        t = damage_page(t, image, keys, Sound { lift, rank }, i, random);
-        i += 1;
+    for i in 0..24 {
+        random = random.next();
+        let rank = random.pick(keys.len());
+        random = random.next();
+        let sound = Sound { keys, lift, rank };
+        damage_page(tally, image, sound, i, random);
     }
-    t
 }

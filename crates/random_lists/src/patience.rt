@@ -1,106 +1,64 @@
 // Patience: who is refused with 26 opens at the first second after the lockout, and at none before it, whatever was refused and whichever other holders opened
 // between. A trial states this by the time of the opening that it made and by the lockout, and each of its scans is compared with the plain rule too.
 use crate::cards::{Compared, scan_card};
-use crate::tally::{
-    LOCKOUTS, OPENED_BETWEEN, REFUSED_BETWEEN, TRIED_AGAIN, Tally, expect, has_more, must, note,
-};
-use crate::trial::{ANY, SCANS_OF_TRIAL, Step, TRIALS, Trial, step_of, trial_of};
-use testing::{Random, count_inside, holder_of, rectangle};
+use crate::list::{List, Records};
+use crate::tally::{Kind, Tally};
+use crate::trial::{Due, SCANS_OF_TRIAL, Step, TRIALS, Trial};
+use format::Refusal;
+use testing::{Random, holder_of};
 
 // A scan between. No admission of the trial's holder may open.
-fn count_between(tally: Tally, compared: Compared, is_own: bool) -> Tally {
-    if compared.answer == 0 {
-        return expect(tally, OPENED_BETWEEN, compared.is_right && !is_own);
+fn count_between(tally: &mut Tally, compared: Compared, is_own: bool) {
+    match compared.answer {
+        Ok(_) => tally.expect(Kind::OpenedBetween, compared.is_right && !is_own),
+        Err(refusal) => {
+            tally.expect(Kind::RefusedBetween, compared.is_right);
+            if is_own && refusal == Refusal::Lockout {
+                tally.note(Kind::TriedAgain);
+            }
+        }
     }
-    let t = expect(tally, REFUSED_BETWEEN, compared.is_right);
-    if is_own && compared.answer == 26 {
-        return note(t, TRIED_AGAIN);
-    }
-    t
 }
 
 // A scan of a trial, which must get the rule's answer, and the step's where the step has one.
-fn count_step(tally: Tally, holder: u16, step: Step, compared: Compared) -> Tally {
-    let card = step.card;
-    if step.answer == ANY {
-        return count_between(tally, compared, card.holder == holder);
+fn count_step(tally: &mut Tally, holder: u16, step: Step, compared: Compared) {
+    let answer = compared.answer;
+    match step.due {
+        Due::Opening => tally.must(compared.is_right && answer.is_ok()),
+        Due::Refused(refusal) => tally.must(compared.is_right && answer == Err(refusal)),
+        Due::ByTheRule => count_between(tally, compared, step.card.holder == holder),
     }
-    must(tally, compared.is_right && compared.answer == step.answer)
 }
 
 // The scans of a trial. Its opening is the seed, so that no two trials of a list draw alike. The holder must have tried again between.
-fn play(
-    tally: Tally,
-    keys: &[u32],
-    lift: u32,
-    image: &[u8],
-    records: &mut [u32],
-    expected: &mut [u32],
-    trial: Trial,
-) -> Tally {
-    let mut t = note(tally, LOCKOUTS);
+fn play(tally: &mut Tally, list: List, held: &mut Records, trial: Trial) {
+    tally.note(Kind::Lockouts);
+    let before = tally.count(Kind::TriedAgain);
     let mut random = Random {
-        state: trial.opening as u64,
+        state: u64::from(trial.opening),
     };
-    let mut i: u32 = 0;
-    while i < SCANS_OF_TRIAL {
-        random = testing::next(testing::next(random));
-        let step = step_of(keys, image, lift, trial, i, random);
-        let compared = scan_card(keys, lift, image, records, expected, step.card);
-        t = count_step(t, trial.holder, step, compared);
-        i += 1;
+    for i in 0..SCANS_OF_TRIAL {
+        random = random.next().next();
+        let step = trial.step(list, i, random);
+        let compared = scan_card(list, held, step.card);
+        count_step(tally, trial.holder, step, compared);
     }
-    must(t, has_more(tally, t, TRIED_AGAIN))
+    tally.must(before < tally.count(Kind::TriedAgain));
 }
 
-// The trials in turn. Each meets the records that the scans before it left.
-fn play_trials(
-    tally: Tally,
-    keys: &[u32],
-    lift: u32,
-    image: &[u8],
-    records: &mut [u32],
-    expected: &mut [u32],
-    seed: Random,
-) -> Tally {
-    let mut t = tally;
+// The trials of a list that has keys, in turn. Each meets the records that the scans before it left. Over all of them some scans between must open if the
+// list has several holders.
+pub fn patience(tally: &mut Tally, list: List, held: &mut Records, seed: Random) {
+    let Some(first) = list.keys.first() else {
+        return;
+    };
+    let before = tally.count(Kind::OpenedBetween);
     let mut random = seed;
-    let mut i: u32 = 0;
-    while i < TRIALS {
-        random = testing::next(random);
-        let trial = trial_of(keys, image, i, random);
-        t = play(t, keys, lift, image, records, expected, trial);
-        i += 1;
+    for i in 0..TRIALS {
+        random = random.next();
+        play(tally, list, held, Trial::new(list, i, random));
     }
-    t
-}
-
-// Whether some keys are of another holder than the first.
-fn has_other_holders(keys: &[u32]) -> bool {
-    if keys.len() == 0 {
-        return false;
-    }
-    let holder = holder_of(keys[0]);
-    let own = rectangle(holder, holder, 0, 65535);
-    count_inside(keys, keys.len(), own) < keys.len()
-}
-
-// The trials of a list that has keys. Over all of them some scans between must open if the list has several holders.
-pub fn patience(
-    tally: Tally,
-    keys: &[u32],
-    lift: u32,
-    image: &[u8],
-    records: &mut [u32],
-    expected: &mut [u32],
-    seed: Random,
-) -> Tally {
-    if keys.len() == 0 {
-        return tally;
-    }
-    let t = play_trials(tally, keys, lift, image, records, expected, seed);
-    if has_other_holders(keys) {
-        return must(t, has_more(tally, t, OPENED_BETWEEN));
-    }
-    t
+    let holder = holder_of(*first);
+    let has_others = list.keys.iter().any(|key| holder_of(*key) != holder);
+    tally.must(!has_others || before < tally.count(Kind::OpenedBetween));
 }

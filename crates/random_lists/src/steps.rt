@@ -1,288 +1,211 @@
 // A plain reader of the steps of the eight-page lookup on any bytes, written from the paper: bit by bit, and slow. It uses the library's types and
 // none of its functions. Bands and levels are counted from 0.
-use crate::leaving::{Step, leave, leave_off, refused};
 use crate::links::links_left;
-use crate::plain::{
-    add, bit, first_page, header_refusal, less, node_bit, number, on_bits, root_count,
-};
-use paged_lookup::{Found, Presence};
+use crate::plain::{Page, Plain};
+use format::Refusal;
+use paged_lookup::Found;
 
-// Stands for an off bit; no count of a page's on bits is as large.
-const OFF: usize = 65536;
-
-// T, and B.
-fn t_of(image: &[u8], page: usize) -> usize {
-    number(image, 64 * (page % 65536))
+// Where a key stands between two bands.
+#[derive(Clone, Copy)]
+enum Place {
+    // On its path, at a root.
+    On(usize),
+    // Past an off bit, at a figure.
+    Off(usize),
+    // Past an off bit, where all keys are smaller: the walk ends.
+    Past,
 }
 
-fn b_of(image: &[u8], page: usize) -> usize {
-    number(image, 64 * (page % 65536) + 2)
+// The question that got a no, and whether a bit was off before.
+#[derive(Clone, Copy)]
+pub struct Refused {
+    pub refusal: Refusal,
+    pub is_off: bool,
 }
 
-// A page whose T is at or below a root's number, else the one found before it.
-fn later_page(image: &[u8], page: usize, root: usize, found: usize) -> usize {
-    if t_of(image, page) <= root {
-        page
+fn refuse<T>(refusal: Refusal, is_off: bool) -> Result<T, Refused> {
+    Err(Refused { refusal, is_off })
+}
+
+// 28 on an on bit: the number must be below the limit.
+fn leave(image: Plain, band: usize, next: usize) -> Result<Place, Refused> {
+    if next < image.limit(band) {
+        Ok(Place::On(next))
     } else {
-        found
+        refuse(Refusal::Number, false)
     }
 }
 
-// The last of a band's pages whose T is at or below a root's number; 0 where there is none.
-fn last_page(image: &[u8], first: usize, end: usize, root: usize) -> usize {
-    let mut found: usize = 0;
-    let mut page = first;
-    while page < end {
-        found = later_page(image, page, root, found);
-        page += 1;
+// 28 past an off bit: a figure may be equal to the limit, and then all keys are smaller.
+fn leave_off(image: Plain, band: usize, figure: usize) -> Result<Place, Refused> {
+    let limit = image.limit(band);
+    if limit < figure {
+        refuse(Refusal::Number, true)
+    } else if figure == limit {
+        Ok(Place::Past)
+    } else {
+        Ok(Place::Off(figure))
+    }
+}
+
+// The last of a band's pages whose T is at or below a root's number.
+fn last_page(image: Plain<'_>, band: usize, root: usize) -> Option<Page<'_>> {
+    let end = image.first_page(band.saturating_add(1));
+    let mut found = None;
+    for number in image.first_page(band)..end {
+        let page = image.page(number);
+        if page.t() <= root {
+            found = Some(page);
+        }
     }
     found
 }
 
-// A page's roots, in a band whose pages end before page `end`; 0 where there would be fewer.
-fn page_roots(image: &[u8], page: usize, end: usize, band: usize) -> usize {
-    let next = add(page, 1);
-    let next_t = if next < end {
-        t_of(image, next)
+// A page's roots in its band; 0 where there would be fewer.
+fn page_roots(image: Plain, page: Page, band: usize) -> usize {
+    let next = page.number.saturating_add(1);
+    let end = if next < image.first_page(band.saturating_add(1)) {
+        image.page(next).t()
     } else {
-        root_count(image, band)
+        image.root_count(band)
     };
-    less(next_t, t_of(image, page))
-}
-
-// The on bits of a page's nodes from one up to another.
-fn node_on_bits(image: &[u8], page: usize, from: usize, to: usize) -> usize {
-    on_bits(image, node_bit(page, from), node_bit(page, to))
+    end.saturating_sub(page.t())
 }
 
 // How many nodes stand before each of a page's four levels, and before what comes after them.
-fn level_starts(image: &[u8], page: usize, roots: usize) -> [usize; 5] {
-    let third = add(roots, node_on_bits(image, page, 0, roots));
-    let fourth = add(third, node_on_bits(image, page, roots, third));
-    let end = add(fourth, node_on_bits(image, page, third, fourth));
+fn level_starts(page: Page, roots: usize) -> [usize; 5] {
+    let third = roots.saturating_add(page.on_bits(0, roots));
+    let fourth = third.saturating_add(page.on_bits(roots, third));
+    let end = fourth.saturating_add(page.on_bits(third, fourth));
     [0, roots, third, fourth, end]
 }
 
-// 1 where a node is 00.
-fn empty_node(image: &[u8], page: usize, node: usize) -> usize {
-    if node_on_bits(image, page, node, add(node, 1)) == 0 {
-        1
+// Questions 10 and 11 of a page whose levels have so many nodes.
+fn check_nodes(page: Page, nodes: usize) -> Result<(), Refusal> {
+    let has_empty = (0..nodes).any(|node| !page.is_on(node, 0) && !page.is_on(node, 1));
+    if 240 < nodes || has_empty {
+        Err(Refusal::Nodes)
+    } else if page.on_bits(nodes, 240) != 0 {
+        Err(Refusal::Padding)
     } else {
-        0
+        Ok(())
     }
-}
-
-// How many of a page's first nodes are 00.
-fn empty_nodes(image: &[u8], page: usize, nodes: usize) -> usize {
-    let mut n: usize = 0;
-    let mut node: usize = 0;
-    while node < nodes {
-        n = add(n, empty_node(image, page, node));
-        node += 1;
-    }
-    n
-}
-
-// Questions 10 and 11 of a page whose levels have so many nodes: the number of the one that gets a no, or 0.
-fn nodes_refusal(image: &[u8], page: usize, nodes: usize) -> u8 {
-    if 240 < nodes {
-        return 10;
-    }
-    if empty_nodes(image, page, nodes) != 0 {
-        return 10;
-    }
-    if node_on_bits(image, page, nodes, 240) == 0 {
-        0
-    } else {
-        11
-    }
-}
-
-fn key_bit(key: u32, level: usize) -> usize {
-    ((key >> (31 - level % 32)) % 2) as usize
 }
 
 // Takes the key's bit of a level from a node of a page's level that starts at node `start`, the node counted in its level. Says how many of the
-// level's on bits stand before the one taken, which is the next level's node, or OFF.
-fn next_node(
-    image: &[u8],
-    page: usize,
-    start: usize,
-    node: usize,
-    key: u32,
-    level: usize,
-) -> usize {
-    if node == OFF {
-        return OFF;
-    }
-    let taken = add(node_bit(page, add(start, node)), key_bit(key, level));
-    if bit(image, taken) == 0 {
-        return OFF;
-    }
-    on_bits(image, node_bit(page, start), taken)
+// level's on bits stand before the one taken, which is the next level's node, or that it is off.
+fn next_node(page: Page, start: usize, node: usize, key: u32, level: u32) -> Option<usize> {
+    let node = start.saturating_add(node);
+    let side = (key >> (31 - level % 32) & 1) as usize;
+    page.is_on(node, side)
+        .then_some(page.on_bits_before(start, node, side))
 }
 
-// Follows four bits of the key from a root, counted in the page. Says how many of the fourth level's on bits stand before the one taken, or OFF.
-fn follow(
-    image: &[u8],
-    page: usize,
-    starts: [usize; 5],
-    root: usize,
-    key: u32,
-    band: usize,
-) -> usize {
-    let level = 4 * (band % 8);
-    let second = next_node(image, page, starts[0], root, key, level);
-    let third = next_node(image, page, starts[1], second, key, level + 1);
-    let fourth = next_node(image, page, starts[2], third, key, level + 2);
-    next_node(image, page, starts[3], fourth, key, level + 3)
+// Follows four bits of the key from a root, counted in the page. Says how many of the fourth level's on bits stand before the one taken, or that one is off.
+fn follow(page: Page, starts: [usize; 5], root: usize, key: u32, band: usize) -> Option<usize> {
+    let level = 4 * (band % 8) as u32;
+    let second = next_node(page, starts[0], root, key, level)?;
+    let third = next_node(page, starts[1], second, key, level + 1)?;
+    let fourth = next_node(page, starts[2], third, key, level + 2)?;
+    next_node(page, starts[3], fourth, key, level + 3)
 }
 
-// The four bits of a key in a band, as a number; past an off bit 0, since only what lies before the root counts there.
-fn path_of(key: u32, band: usize, is_off: bool) -> usize {
-    if is_off {
-        return 0;
-    }
-    ((key >> (28 - 4 * (band % 8))) % 16) as usize
+// The four bits of a key in a band, as a number.
+fn path_of(key: u32, band: usize) -> usize {
+    (key >> (28 - 4 * (band % 8)) & 15) as usize
 }
 
-// The key in a page that 27 and 9 gave a yes, from the step before, and out of its band.
+// The key in a page that 27 and 9 gave a yes, from a root or a figure, and out of its band.
 fn through_page(
-    image: &[u8],
-    page: usize,
+    image: Plain,
+    page: Page,
     roots: usize,
-    from: Step,
+    place: Place,
     key: u32,
     band: usize,
-) -> Step {
-    let starts = level_starts(image, page, roots);
-    let refusal = nodes_refusal(image, page, starts[4]);
-    if refusal != 0 {
-        return refused(refusal, from.is_off);
+) -> Result<Place, Refused> {
+    let starts = level_starts(page, roots);
+    let is_off = !matches!(place, Place::On(_));
+    check_nodes(page, starts[4]).map_err(|refusal| Refused { refusal, is_off })?;
+    let b = page.b();
+    match place {
+        Place::On(number) => {
+            let root = number.saturating_sub(page.t());
+            if let Some(before) = follow(page, starts, root, key, band) {
+                return leave(image, band, b.saturating_add(before));
+            }
+            let left = links_left(page, starts, root, path_of(key, band));
+            leave_off(image, band, b.saturating_add(left))
+        }
+        // Only what lies before the root counts.
+        Place::Off(figure) => {
+            let root = figure.saturating_sub(page.t());
+            let left = links_left(page, starts, root, 0);
+            leave_off(image, band, b.saturating_add(left))
+        }
+        Place::Past => Ok(Place::Past),
     }
-    let root = less(from.root, t_of(image, page));
-    let before = if from.is_off {
-        OFF
-    } else {
-        follow(image, page, starts, root, key, band)
-    };
-    let b = b_of(image, page);
-    if before != OFF {
-        return leave(image, band, page, add(b, before));
-    }
-    let path = path_of(key, band, from.is_off);
-    let left = links_left(image, page, starts, root, path);
-    leave_off(image, band, page, add(b, left))
 }
 
-// The key in a band, from the step before.
-fn through(image: &[u8], band: usize, from: Step, key: u32) -> Step {
-    let end = first_page(image, add(band, 1));
-    let page = last_page(image, first_page(image, band), end, from.root);
-    if page == 0 {
-        return refused(27, from.is_off);
-    }
-    let roots = page_roots(image, page, end, band);
+// The key in a band. Says the page read.
+fn through(image: Plain, band: usize, place: Place, key: u32) -> Result<(usize, Place), Refused> {
+    let (root, is_off) = match place {
+        Place::On(root) => (root, false),
+        Place::Off(figure) => (figure, true),
+        Place::Past => return Ok((0, Place::Past)),
+    };
+    let Some(page) = last_page(image, band, root) else {
+        return refuse(Refusal::Page, is_off);
+    };
+    let roots = page_roots(image, page, band);
     if roots == 0 || 60 < roots {
-        return refused(9, from.is_off);
+        return refuse(Refusal::Roots, is_off);
     }
-    through_page(image, page, roots, from, key, band)
+    let next = through_page(image, page, roots, place, key, band)?;
+    Ok((page.number, next))
 }
 
-// The last step of a walk, and the pages read.
-#[derive(Drop)]
-struct Walked {
-    step: Step,
-    pages: [u32; 8],
+// A number of an image, none of which comes near the bound.
+fn narrow(n: usize) -> u32 {
+    u32::try_from(n).unwrap_or(4294967295)
 }
 
-// The walk one band on, unless it has ended.
-fn next_band(image: &[u8], walked: Walked, band: usize, key: u32) -> Walked {
-    let before = walked.step;
-    if before.refusal != 0 || before.is_last {
-        return walked;
+// From root 0 through the eight bands. Out of the last band the root is the rank, or past an off bit the number of smaller keys.
+fn walk(image: Plain, key: u32) -> Result<Found, Refused> {
+    let mut place = Place::On(0);
+    let mut pages = [0; 8];
+    for (band, number) in pages.iter_mut().enumerate() {
+        let (page, next) = through(image, band, place, key)?;
+        *number = narrow(page);
+        place = next;
     }
-    let step = through(image, band, before, key);
-    let mut pages = walked.pages;
-    pages[band % 8] = (step.page % 65536) as u32;
-    Walked { step, pages }
-}
-
-// From root 0 through the eight bands.
-fn walk(image: &[u8], key: u32) -> Walked {
-    let mut walked = Walked {
-        step: Step {
-            refusal: 0,
-            is_off: false,
-            is_last: false,
-            root: 0,
-            page: 0,
+    Ok(match place {
+        Place::On(root) => Found::Listed {
+            rank: narrow(root),
+            pages,
         },
-        pages: [0u32; 8],
-    };
-    let mut band: usize = 0;
-    while band < 8 {
-        walked = next_band(image, walked, band, key);
-        band += 1;
-    }
-    walked
+        Place::Off(figure) => Found::Absent {
+            smaller: narrow(figure),
+        },
+        Place::Past => Found::Absent {
+            smaller: narrow(image.key_count()),
+        },
+    })
 }
 
-fn without_pages(answer: Presence) -> Found {
-    Found {
-        answer,
-        pages: [0u32; 8],
-    }
-}
-
-// What a walk found: out of the last band the root is the rank, or past an off bit the number of smaller keys.
-fn found(walked: Walked) -> Found {
-    let step = walked.step;
-    if step.refusal != 0 {
-        return without_pages(Presence::Refused(step.refusal));
-    }
-    if step.is_off {
-        return without_pages(Presence::Absent((step.root % 65536) as u32));
-    }
-    let pages = walked.pages;
-    Found {
-        answer: Presence::Listed((step.root % 65536) as u32),
-        pages,
-    }
-}
-
-// The steps' answer, and whether a bit was off: a refusal came past it then.
-#[derive(Drop)]
-pub struct Answered {
-    pub found: Found,
-    pub is_off: bool,
-}
-
-// An answer by the header alone.
-fn at_once(answer: Presence) -> Answered {
-    Answered {
-        found: without_pages(answer),
+// The steps' answer.
+pub fn answer(image: &[u8], holder: u16, slot: u16) -> Result<Found, Refused> {
+    let image = Plain { image };
+    image.check_header().map_err(|refusal| Refused {
+        refusal,
         is_off: false,
+    })?;
+    if image.key_count() == 0 {
+        return Ok(Found::Absent { smaller: 0 });
     }
+    walk(image, testing::key_of(holder, slot))
 }
 
-pub fn answer(image: &[u8], holder: u16, slot: u16) -> Answered {
-    let refusal = header_refusal(image);
-    if refusal != 0 {
-        return at_once(Presence::Refused(refusal));
-    }
-    if number(image, 6) == 0 {
-        return at_once(Presence::Absent(0));
-    }
-    let walked = walk(image, testing::key_of(holder, slot));
-    let step = walked.step;
-    Answered {
-        found: found(walked),
-        is_off: step.is_off,
-    }
-}
-
-pub fn lookup(image: &[u8], holder: u16, slot: u16) -> Found {
-    let all = answer(image, holder, slot);
-    all.found
+pub fn lookup(image: &[u8], holder: u16, slot: u16) -> Result<Found, Refusal> {
+    answer(image, holder, slot).map_err(|refused| refused.refusal)
 }

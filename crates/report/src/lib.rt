@@ -4,19 +4,17 @@
 ghost use Rattle.std.specs.Prelude.{◌≡◌, ◌++◌, ◌+◌, ◌*◌, ◌≤◌, ◌<◌, ◌^◌, length, take};
 ghost use Rattle.std.proofs.lemmas.List.Edits.{sets};
 ghost use Rattle.format.specs.Text.{digits, rows, admissions_word, refused_word};
-ghost use Rattle.format.specs.Exact.{whole_square};
 ghost use Rattle.report.specs.Outcomes.{Reported};
 ghost use Rattle.report.specs.Row.{field_of, row_of, Put};
 
-use format::{Range, Rectangle};
-use query::Members;
+use format::{Rectangle, Refusal};
 
 // The character of a digit.
 fn digit(n: u32) -> u8
     requires { n < 10 }
     ensures { result ≡ 48 + n }
 {
-    48 + n as u8
+    b'0' + n as u8
 }
 
 // Writes `n`, which has at most `d` + 1 decimal digits, from `at` on, and returns the place after it.
@@ -49,27 +47,19 @@ fn put_row(out: &mut [u8], at: usize, key: u32, rank: u32) -> usize
     ensures { Put out.old at (row_of key rank) 18 out.new result }
 {
     let admission = zorder::unweave(key);
-    let slot_at = put_field(out, at, wide(admission.holder), 32);
-    let rank_at = put_field(out, slot_at, wide(admission.slot), 32);
-    put_field(out, rank_at, rank, 10)
+    let slot_at = put_field(out, at, u32::from(admission.holder), b' ');
+    let rank_at = put_field(out, slot_at, u32::from(admission.slot), b' ');
+    put_field(out, rank_at, rank, b'\n')
 }
 
-fn wide(x: u16) -> u32
-    ensures { (result ≡ x) × (result < 65536) }
-{
-    x as u32
-}
-
-// Writes the lines of the first `n` keys, from `at` on, and returns the place after them.
-fn put_rows(out: &mut [u8], at: usize, keys: &[u32], n: usize) -> usize
-    requires { (n ≤ length keys.now) × (n ≤ 4096) × (at + 18 * n ≤ length out.old) }
-    ensures { Put out.old at (rows 0 (take n keys.now)) (18 * n) out.new result }
+// Writes the lines of the keys, from `at` on, and returns the place after them.
+fn put_rows(out: &mut [u8], at: usize, keys: &[u32]) -> usize
+    requires { (length keys.now ≤ 4096) × (at + 18 * length keys.now ≤ length out.old) }
+    ensures { Put out.old at (rows 0 keys.now) (18 * length keys.now) out.new result }
 {
     let mut next = at;
-    let mut i: usize = 0;
-    while i < n {
-        next = put_row(out, next, keys[i], i as u32);
-        i += 1;
+    for (i, key) in keys.iter().enumerate() {
+        next = put_row(out, next, *key, i as u32);
     }
     next
 }
@@ -79,17 +69,7 @@ fn put_admissions(out: &mut [u8])
     requires { 11 ≤ length out.old }
     ensures { out.new ≡ sets out.old 0 admissions_word }
 {
-    out[0] = 97;
-    out[1] = 100;
-    out[2] = 109;
-    out[3] = 105;
-    out[4] = 115;
-    out[5] = 115;
-    out[6] = 105;
-    out[7] = 111;
-    out[8] = 110;
-    out[9] = 115;
-    out[10] = 32;
+    out[..11].copy_from_slice(b"admissions ");
 }
 
 // Writes `refused ` at the start.
@@ -97,14 +77,7 @@ fn put_refused(out: &mut [u8])
     requires { 8 ≤ length out.old }
     ensures { out.new ≡ sets out.old 0 refused_word }
 {
-    out[0] = 114;
-    out[1] = 101;
-    out[2] = 102;
-    out[3] = 117;
-    out[4] = 115;
-    out[5] = 101;
-    out[6] = 100;
-    out[7] = 32;
+    out[..8].copy_from_slice(b"refused ");
 }
 
 // Writes the line of a refusal at the start, and returns its length.
@@ -113,32 +86,17 @@ fn put_refusal(out: &mut [u8], n: u8) -> usize
     ensures { Put out.old 0 (refused_word ++ field_of n 10) 14 out.new result }
 {
     put_refused(out);
-    put_field(out, 8, n as u32, 10)
+    put_field(out, 8, u32::from(n), b'\n')
 }
 
-// Writes the whole listing of the first `n` keys at the start, and returns its length.
-fn put_listing(out: &mut [u8], keys: &[u32], n: usize) -> usize
-    requires { (n ≤ length keys.now) × (n ≤ 4096) × (73745 ≤ length out.old) }
-    ensures { Put out.old 0 (admissions_word ++ field_of n 10 ++ rows 0 (take n keys.now)) (17 + 18 * n) out.new result }
+// Writes the whole listing of the keys at the start, and returns its length.
+fn put_listing(out: &mut [u8], keys: &[u32]) -> usize
+    requires { (length keys.now ≤ 4096) × (73745 ≤ length out.old) }
+    ensures { Put out.old 0 (admissions_word ++ field_of (length keys.now) 10 ++ rows 0 keys.now) (17 + 18 * length keys.now) out.new result }
 {
     put_admissions(out);
-    let at = put_field(out, 11, n as u32, 10);
-    put_rows(out, at, keys, n)
-}
-
-fn whole_square() -> Rectangle
-    ensures { result ≡ whole_square }
-{
-    Rectangle {
-        holders: Range {
-            low: 0,
-            high: 65535,
-        },
-        slots: Range {
-            low: 0,
-            high: 65535,
-        },
-    }
+    let at = put_field(out, 11, keys.len() as u32, b'\n');
+    put_rows(out, at, keys)
 }
 
 // Writes the listing program's output for an image into the first bytes of a buffer that has room for every output, and returns its length: 17 bytes at most for
@@ -147,16 +105,12 @@ pub fn report(image: &[u8], out: &mut [u8; 73745]) -> usize
     ensures { Reported image.now out.old out.new result }
 {
     if 65536 < image.len() {
-        return put_refusal(out, 6);
+        return put_refusal(out, Refusal::Length.number());
     }
     let mut keys = [0u32; 4096];
-    match query::list(image, whole_square(), &mut keys) {
-        Members::Refused(n) => {
-            return put_refusal(out, n);
-        }
-        Members::Count(n) => {
-            return put_listing(out, &keys, n);
-        }
+    match query::list(image, Rectangle::whole_square(), &mut keys) {
+        Err(refusal) => put_refusal(out, refusal.number()),
+        Ok(n) => put_listing(out, &keys[..n]),
     }
 }
 
@@ -169,5 +123,5 @@ pub fn report_input(input: &[u8; 65537], n: usize, out: &mut [u8; 73745]) -> usi
     if all.len() <= n {
         return report(all, out);
     }
-    report(&all[0..n], out)
+    report(&all[..n], out)
 }

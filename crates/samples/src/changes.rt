@@ -1,105 +1,98 @@
 // How the cases of sales and withdrawals look at an edit: the answer, and every byte and element of both outputs.
-use crate::images::{all_bytes, all_numbers};
-use answers::{edit_key, length_of, refusal_of};
+use crate::images::{all_are, written};
+use answers::edit_key;
 use edit::Change;
-use testing::{starts_with, starts_with_bytes};
+use format::Refusal;
+use std::alloc::{AllocError, Global};
 
 // More than any image has, and more elements than any record buffer.
 const BYTES: usize = format::MOST_BYTES + 64;
 
 const ELEMENTS: usize = 4110;
 
-// An image of three keys, 5, 9 and 12, for a lift, 0 for version 1.
-pub fn three_for(lift: u32) -> [u8; 576] {
-    let mut image = [0u8; 576];
-    let keys: [u32; 3] = [5, 9, 12];
-    writer::write_either(&keys, lift, &mut image);
-    image
+// A sale or a withdrawal of a key.
+#[derive(Clone, Copy)]
+pub struct Edit {
+    pub change: Change,
+    pub key: u32,
+}
+
+pub fn add(key: u32) -> Edit {
+    Edit {
+        change: Change::Add,
+        key,
+    }
+}
+
+pub fn withdraw(key: u32) -> Edit {
+    Edit {
+        change: Change::Withdraw,
+        key,
+    }
+}
+
+// An image, and the records and counts that are held with it.
+#[derive(Clone, Copy)]
+pub struct Held<'a> {
+    pub image: &'a [u8],
+    pub records: &'a [u32],
+}
+
+impl<'a> Held<'a> {
+    // Whether an edit gives the image that the writer gives for `keys` and that lift, and `after` for records, and leaves what lies past their ends.
+    pub fn gives(self, edit: Edit, keys: &[u32], lift: u32, after: &[u32]) -> bool {
+        let mut image = [0xee; BYTES];
+        let mut records = [77; ELEMENTS];
+        let edited = self.edit(edit, &mut image, &mut records);
+        let mut expected = [0xee; BYTES];
+        edited.is_ok()
+            && edited == writer::write_either(keys, lift, &mut expected)
+            && image == expected
+            && records
+                .split_at_checked(after.len())
+                .is_some_and(|(first, rest)| first == after && all_are(rest, 77))
+    }
+
+    fn edit(self, edit: Edit, image: &mut [u8], records: &mut [u32]) -> Result<usize, Refusal> {
+        edit_key(
+            edit.change,
+            self.image,
+            self.records,
+            edit.key,
+            image,
+            records,
+        )
+    }
+
+    // Whether an edit into so many bytes and elements is refused and leaves both as lent; or, where no refusal is expected, is done.
+    pub fn ends(
+        self,
+        edit: Edit,
+        bytes: usize,
+        elements: usize,
+        expected: Option<Refusal>,
+    ) -> bool {
+        let mut image = [0xee; BYTES];
+        let mut records = [77; ELEMENTS];
+        let (Some(room), Some(places)) = (image.get_mut(..bytes), records.get_mut(..elements))
+        else {
+            return false;
+        };
+        let edited = self.edit(edit, room, places);
+        let is_lent = all_are(room, 0xee) && all_are(places, 77);
+        edited.err() == expected && is_lent == expected.is_some()
+    }
+
+    // Whether an edit into outputs with room for anything is refused and leaves both as lent.
+    pub fn refuses(self, edit: Edit, refusal: Refusal) -> bool {
+        self.ends(edit, BYTES, ELEMENTS, Some(refusal))
+    }
+}
+
+// The image of the keys 5, 9 and 12 for a lift, 0 for version 1.
+pub fn three_for(alloc: Global, lift: u32) -> Result<Vec<u8>, AllocError> {
+    written(alloc, &[5, 9, 12], lift)
 }
 
 // Its records, and the counts of the lanes 1 to 8.
-pub fn three_records() -> [u32; 11] {
-    [501, 901, 1201, 10, 20, 30, 40, 50, 60, 70, 80]
-}
-
-// Whether the first elements are those of a list, and the others are 77.
-fn holds(elements: &[u32], list: &[u32]) -> bool {
-    let n = list.len();
-    if elements.len() < n {
-        return false;
-    }
-    starts_with(elements, list) && all_numbers(&elements[n..elements.len()], 77)
-}
-
-// Whether an edit gives the image that the writer gives for `keys` and that lift, and `after` for records, and leaves what lies past their ends.
-pub fn gives(
-    change: Change,
-    image: &[u8],
-    records: &[u32],
-    key: u32,
-    keys: &[u32],
-    lift: u32,
-    after: &[u32],
-) -> bool {
-    let mut out = [0xeeu8; BYTES];
-    let mut places = [77u32; ELEMENTS];
-    let edited = edit_key(change, image, records, key, &mut out, &mut places);
-    let mut expected = [0xeeu8; BYTES];
-    let length = length_of(writer::write_either(keys, lift, &mut expected));
-    if length_of(edited) != length {
-        return false;
-    }
-    0 < length && starts_with_bytes(&out, &expected) && holds(&places, after)
-}
-
-// Whether an edit into bytes 0xee and elements 77 is refused with `n` and leaves both as lent; or is done, for 0.
-fn refuses_in(
-    change: Change,
-    image: &[u8],
-    records: &[u32],
-    key: u32,
-    out: &mut [u8],
-    places: &mut [u32],
-    n: u8,
-) -> bool {
-    let edited = edit_key(change, image, records, key, out, places);
-    if refusal_of(edited) != n {
-        return false;
-    }
-    let is_lent = all_bytes(out, 0xee) && all_numbers(places, 77);
-    is_lent == (0 < n)
-}
-
-// The same into outputs of so many bytes and elements.
-pub fn refuses(
-    change: Change,
-    image: &[u8],
-    records: &[u32],
-    key: u32,
-    bytes: usize,
-    elements: usize,
-    n: u8,
-) -> bool {
-    let mut out = [0xeeu8; BYTES];
-    let mut places = [77u32; ELEMENTS];
-    if BYTES < bytes {
-        return false;
-    }
-    if ELEMENTS < elements {
-        return false;
-    }
-    refuses_in(
-        change,
-        image,
-        records,
-        key,
-        &mut out[0..bytes],
-        &mut places[0..elements],
-        n,
-    )
-}
-
-// The same into outputs with room for anything.
-pub fn refuses_key(change: Change, image: &[u8], records: &[u32], key: u32, n: u8) -> bool {
-    refuses(change, image, records, key, BYTES, ELEMENTS, n)
-}
+pub const THREE_RECORDS: [u32; 11] = [501, 901, 1201, 10, 20, 30, 40, 50, 60, 70, 80];

@@ -1,22 +1,15 @@
 // The lockout follows the holder: rows of scans of a short list, in which one holder has three admissions and each of the others has one.
-use crate::gates::{Scan, is_scanned, opens, refused};
-use crate::say::{Tally, case};
-use testing::starts_with;
+use crate::gates::{Door, opens, refused};
+use crate::images::written;
+use crate::say::Tally;
+use format::Refusal;
+use std::alloc::{AllocError, Global};
+use std::io;
 
 // The image of seven admissions, by rank: slot 10 of holder 4, slots 10 and 11 of holder 5, slot 10 of holder 6, slot 20 of holder 9, slot 500 of holder 5,
 // and slot 10 of holder 32,773, which is 5 in its lower 15 bits.
-pub fn few_holders() -> [u8; 576] {
-    let keys = [100, 102, 103, 108, 402, 87346, 2147483750];
-    let mut image = [0u8; 576];
-    writer::write_either(&keys, 0, &mut image);
-    image
-}
-
-// The cases so far, and the records: of the ranks 0 to 6, then the counts of the lanes 1 to 8.
-#[derive(Drop)]
-struct Row {
-    tally: Tally,
-    records: [u32; 15],
+pub fn few_holders(alloc: Global) -> Result<Vec<u8>, AllocError> {
+    written(alloc, &[100, 102, 103, 108, 402, 87346, 2147483750], 0)
 }
 
 // The records of the ranks, and `openings` in lane 1 alone.
@@ -26,37 +19,17 @@ fn records_of(r: [u32; 7], openings: u32) -> [u32; 15] {
     ]
 }
 
-// A row of scans from these records, and none in any lane before.
-fn begin(tally: Tally, ranks: [u32; 7]) -> Row {
-    Row {
-        tally,
+// The door of the list with these records, and no opening in any lane before.
+fn door(tally: &Tally, ranks: [u32; 7]) -> io::Result<Door<15>> {
+    Ok(Door {
+        image: few_holders(tally.alloc)?,
         records: records_of(ranks, 0),
-    }
-}
-
-// A case: a scan of a holder gets its answer, the records of the ranks are then `ranks`, and lane 1 alone has openings.
-fn scan_case(
-    row: Row,
-    names: &[u8],
-    holder: u16,
-    asked: Scan,
-    ranks: [u32; 7],
-    openings: u32,
-) -> Row {
-    let mut records = row.records;
-    let mut is_right = is_scanned(&few_holders(), &mut records, holder, asked);
-    if is_right {
-        is_right = starts_with(&records, &records_of(ranks, openings));
-    }
-    Row {
-        tally: case(row.tally, names, is_right),
-        records,
-    }
+    })
 }
 
 // Paper 02's row: slot 10 opened at 1000. Slot 12 is not listed.
-pub fn passed_back(tally: Tally) -> Tally {
-    let names: &[u8] = b"\
+pub fn passed_back(tally: &mut Tally) -> io::Result<()> {
+    let names = "\
         lockout 600: holder 5's slot 10 opened at 1000, record 1001\n\
         lockout 600: the same holder's slot 11 at 1200, 26\n\
         lockout 600: the same holder's slot 11 at 1599, 26\n\
@@ -67,26 +40,29 @@ pub fn passed_back(tally: Tally) -> Tally {
         lockout 600: slot 500, whose own record is 0, at 2199, 26\n\
         lockout 600: slot 12, not listed, at 2200, 24\n\
         lockout 600: slot 10 opens at 2200, record 2201, and slot 11's stays 1601\n";
-    let first = [0, 1001, 0, 0, 0, 0, 0];
-    let second = [0, 1001, 1601, 0, 0, 0, 0];
-    let mut r = begin(tally, [0, 0, 0, 0, 0, 0, 0]);
-    r = scan_case(r, names, 5, opens(10, 1000, 600, 1), first, 1);
-    r = scan_case(r, names, 5, refused(11, 1200, 600, 26), first, 1);
-    r = scan_case(r, names, 5, refused(11, 1599, 600, 26), first, 1);
-    r = scan_case(r, names, 5, refused(12, 1599, 600, 24), first, 1);
-    r = scan_case(r, names, 5, opens(11, 1600, 600, 2), second, 2);
-    r = scan_case(r, names, 5, refused(10, 1700, 600, 26), second, 2);
-    r = scan_case(r, names, 5, refused(10, 1500, 600, 25), second, 2);
-    r = scan_case(r, names, 5, refused(500, 2199, 600, 26), second, 2);
-    r = scan_case(r, names, 5, refused(12, 2200, 600, 24), second, 2);
-    let third = [0, 2201, 1601, 0, 0, 0, 0];
-    r = scan_case(r, names, 5, opens(10, 2200, 600, 1), third, 3);
-    r.tally
+    let cases = [
+        (opens(10, 1000, 600, 1), 1001, 0, 1),
+        (refused(11, 1200, 600, Refusal::Lockout), 1001, 0, 1),
+        (refused(11, 1599, 600, Refusal::Lockout), 1001, 0, 1),
+        (refused(12, 1599, 600, Refusal::Admission), 1001, 0, 1),
+        (opens(11, 1600, 600, 2), 1001, 1601, 2),
+        (refused(10, 1700, 600, Refusal::Lockout), 1001, 1601, 2),
+        (refused(10, 1500, 600, Refusal::Earlier), 1001, 1601, 2),
+        (refused(500, 2199, 600, Refusal::Lockout), 1001, 1601, 2),
+        (refused(12, 2200, 600, Refusal::Admission), 1001, 1601, 2),
+        (opens(10, 2200, 600, 1), 2201, 1601, 3),
+    ];
+    let mut door = door(tally, [0; 7])?;
+    for (name, (asked, first, second, openings)) in names.lines().zip(cases) {
+        let after = records_of([0, first, second, 0, 0, 0, 0], openings);
+        door.scan(tally, name, 5, asked, after)?;
+    }
+    Ok(())
 }
 
 // Other holders in the same slot, of numbers beside the holder's and with another high bit.
-pub fn other_holders(tally: Tally) -> Tally {
-    let names: &[u8] = b"\
+pub fn other_holders(tally: &mut Tally) -> io::Result<()> {
+    let names = "\
         other holders: slot 10 of holder 5 opened at 1000\n\
         other holders: slot 10 of holder 4 opens at 1200\n\
         other holders: slot 10 of holder 6 opens at 1200\n\
@@ -94,36 +70,46 @@ pub fn other_holders(tally: Tally) -> Tally {
         other holders: slot 11 of holder 5 at 1599, 26\n\
         other holders: slot 11 of holder 5 opens at 1600\n\
         other holders: slot 10 of holder 4 at 1600, 26\n";
-    let mut r = begin(tally, [0, 0, 0, 0, 0, 0, 0]);
-    let card = opens(10, 1000, 600, 1);
-    r = scan_case(r, names, 5, card, [0, 1001, 0, 0, 0, 0, 0], 1);
-    let four = opens(10, 1200, 600, 0);
-    r = scan_case(r, names, 4, four, [1201, 1001, 0, 0, 0, 0, 0], 2);
-    let six = opens(10, 1200, 600, 3);
-    r = scan_case(r, names, 6, six, [1201, 1001, 0, 1201, 0, 0, 0], 3);
-    let far = opens(10, 1200, 600, 6);
     let all = [1201, 1001, 0, 1201, 0, 0, 1201];
-    r = scan_case(r, names, 32773, far, all, 4);
-    r = scan_case(r, names, 5, refused(11, 1599, 600, 26), all, 4);
     let again = [1201, 1001, 1601, 1201, 0, 0, 1201];
-    r = scan_case(r, names, 5, opens(11, 1600, 600, 2), again, 5);
-    r = scan_case(r, names, 4, refused(10, 1600, 600, 26), again, 5);
-    r.tally
+    let cases = [
+        (5, opens(10, 1000, 600, 1), [0, 1001, 0, 0, 0, 0, 0], 1),
+        (4, opens(10, 1200, 600, 0), [1201, 1001, 0, 0, 0, 0, 0], 2),
+        (
+            6,
+            opens(10, 1200, 600, 3),
+            [1201, 1001, 0, 1201, 0, 0, 0],
+            3,
+        ),
+        (32773, opens(10, 1200, 600, 6), all, 4),
+        (5, refused(11, 1599, 600, Refusal::Lockout), all, 4),
+        (5, opens(11, 1600, 600, 2), again, 5),
+        (4, refused(10, 1600, 600, Refusal::Lockout), again, 5),
+    ];
+    let mut door = door(tally, [0; 7])?;
+    for (name, (holder, asked, ranks, openings)) in names.lines().zip(cases) {
+        door.scan(tally, name, holder, asked, records_of(ranks, openings))?;
+    }
+    Ok(())
 }
 
 // Holder 9 has one admission. Every other admission of the list has opened, most of them later.
-pub fn one_admission(tally: Tally) -> Tally {
-    let names: &[u8] = b"\
+pub fn one_admission(tally: &mut Tally) -> io::Result<()> {
+    let names = "\
         one admission: opens at 1000 among other holders' records, record 1001\n\
         one admission: at 999, 25\n\
         one admission: at 1599, 26\n\
         one admission: opens at 1600, record 1601\n";
-    let first = [901, 1500, 1601, 4000, 1001, 1599, 4294967295];
-    let second = [901, 1500, 1601, 4000, 1601, 1599, 4294967295];
-    let mut r = begin(tally, [901, 1500, 1601, 4000, 0, 1599, 4294967295]);
-    r = scan_case(r, names, 9, opens(20, 1000, 600, 4), first, 1);
-    r = scan_case(r, names, 9, refused(20, 999, 600, 25), first, 1);
-    r = scan_case(r, names, 9, refused(20, 1599, 600, 26), first, 1);
-    r = scan_case(r, names, 9, opens(20, 1600, 600, 4), second, 2);
-    r.tally
+    let cases = [
+        (opens(20, 1000, 600, 4), 1001, 1),
+        (refused(20, 999, 600, Refusal::Earlier), 1001, 1),
+        (refused(20, 1599, 600, Refusal::Lockout), 1001, 1),
+        (opens(20, 1600, 600, 4), 1601, 2),
+    ];
+    let mut door = door(tally, [901, 1500, 1601, 4000, 0, 1599, 4294967295])?;
+    for (name, (asked, record, openings)) in names.lines().zip(cases) {
+        let ranks = [901, 1500, 1601, 4000, record, 1599, 4294967295];
+        door.scan(tally, name, 9, asked, records_of(ranks, openings))?;
+    }
+    Ok(())
 }

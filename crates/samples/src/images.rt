@@ -1,221 +1,128 @@
-// Lists and images that the cases start from, in version 1, and ways to look at buffers.
+// Lists and images that the cases start from, and ways to look at buffers.
+use answers::image_of;
+use std::alloc::{AllocError, Global};
 
-// The image of the empty list.
-pub fn no_key() -> [u8; 64] {
-    let mut image = [0u8; 64];
-    let keys = [0u32; 1];
-    writer::write_either(&keys[0..0], 0, &mut image);
-    image
+// The lists whose images in version 1 most cases start from.
+#[derive(Clone, Copy)]
+pub enum Base {
+    NoKey,
+    // Key 0.
+    OneKey,
+    // The keys 0 and 1, plate 9.
+    TwoKeys,
+    // The last key of all: one root a band, every node 01.
+    LastKey,
+    // 0, 0x99999999 and the last of all: three roots in each of the bands 2 to 8, of one out-link each.
+    ThreeKeys,
+    // The eight keys of document 004, plate 12: one root in each of the bands 1 to 7, and five in band 8, of 1, 1, 3, 2 and 1 keys.
+    EightKeys,
+    // 61 keys with 16 between them: two pages of subtries of 4 nodes in band 8, 60 and 1, every node 10.
+    TwoPages,
+    // 256 keys with 2 ^ 24 between them, but for rank 60, which has room for other keys left of it: band 3 begins with page 3, and each of the bands
+    // 3 to 8 has five pages, of 60, 60, 60, 60 and 16 subtries of 4 nodes. Rank 60 is the first key of the second pages.
+    FivePages,
+    // The keys 0 to 4095: band 8 has the pages 8 to 23, of 16 roots and 256 keys each.
+    Dense,
+    // 4,096 keys as far apart as they can be: 64 slots of each of 64 holders, the slots and the holders 1,024 apart.
+    FarApart,
 }
 
-// The image of key 0.
-pub fn one_key() -> [u8; 576] {
-    let mut image = [0u8; 576];
-    let keys = [0u32; 1];
-    writer::write_either(&keys, 0, &mut image);
-    image
-}
-
-// The same with another byte at a place.
-pub fn with_byte(at: usize, byte: u8) -> [u8; 576] {
-    let mut image = one_key();
-    if at < 576 {
-        image[at] = byte;
+impl Base {
+    pub fn keys(self, alloc: Global) -> Result<Vec<u32>, AllocError> {
+        match self {
+            Base::NoKey => vec![in alloc],
+            Base::OneKey => Ok(vec![in alloc; 0]?),
+            Base::TwoKeys => Ok(vec![in alloc; 0, 1]?),
+            Base::LastKey => Ok(vec![in alloc; 4294967295]?),
+            Base::ThreeKeys => Ok(vec![in alloc; 0, 0x99999999, 4294967295]?),
+            Base::EightKeys => Ok(vec![in alloc; 3, 44, 128, 133, 136, 160, 172, 192]?),
+            Base::TwoPages => steps(alloc, 16, 61),
+            Base::FivePages => five_pages(alloc),
+            Base::Dense => steps(alloc, 1, 4096),
+            Base::FarApart => steps(alloc, 1048576, 4096),
+        }
     }
-    image
-}
 
-// The image of the keys 0 and 1, plate 9.
-pub fn two_keys() -> [u8; 576] {
-    image_for(0)
-}
-
-// The same for a lift, 0 for version 1.
-pub fn image_for(lift: u32) -> [u8; 576] {
-    let mut image = [0u8; 576];
-    let mut keys = [0u32; 2];
-    keys[1] = 1;
-    writer::write_either(&keys, lift, &mut image);
-    image
-}
-
-// The image of the last key of all: one root a band, every node 01.
-pub fn last_key() -> [u8; 576] {
-    let mut image = [0u8; 576];
-    let keys = [4294967295u32; 1];
-    writer::write_either(&keys, 0, &mut image);
-    image
-}
-
-// The same with another byte at a place.
-pub fn last_key_with(at: usize, byte: u8) -> [u8; 576] {
-    let mut image = last_key();
-    if at < 576 {
-        image[at] = byte;
+    // The image for a lift, 0 for version 1.
+    pub fn image_for(self, alloc: Global, lift: u32) -> Result<Vec<u8>, AllocError> {
+        written(alloc, &self.keys(alloc)?, lift)
     }
-    image
-}
 
-// The image of three keys, 0, 0x99999999 and the last of all: three roots in each of the bands 2 to 8, of one out-link each.
-pub fn three_keys() -> [u8; 576] {
-    let mut image = [0u8; 576];
-    let keys: [u32; 3] = [0, 0x99999999, 4294967295];
-    writer::write_either(&keys, 0, &mut image);
-    image
-}
-
-// The image of the eight keys of document 004, plate 12: one root in each of the bands 1 to 7, and five in band 8, of 1, 1, 3, 2 and 1 keys.
-pub fn eight_keys() -> [u8; 576] {
-    let mut image = [0u8; 576];
-    let keys: [u32; 8] = [3, 44, 128, 133, 136, 160, 172, 192];
-    writer::write_either(&keys, 0, &mut image);
-    image
-}
-
-// The same with another byte at a place.
-pub fn eight_keys_with(at: usize, byte: u8) -> [u8; 576] {
-    let mut image = eight_keys();
-    if at < 576 {
-        image[at] = byte;
+    pub fn image(self, alloc: Global) -> Result<Vec<u8>, AllocError> {
+        self.image_for(alloc, 0)
     }
-    image
-}
 
-// The keys 0, `step`, twice `step` and so on, as numbers below 2 ^ 32.
-pub fn steps(step: u32) -> [u32; 4097] {
-    let mut keys = [0u32; 4097];
-    let mut key: u64 = 0;
-    let mut i: usize = 0;
-    while i < 4097 {
-        keys[i] = (key % 4294967296) as u32;
-        key = (key % 4294967296) + step as u64;
-        i += 1;
+    // The image with other bytes at some places.
+    pub fn with(self, alloc: Global, bytes: &[(usize, u8)]) -> Result<Vec<u8>, AllocError> {
+        let mut image = self.image(alloc)?;
+        change(&mut image, bytes);
+        Ok(image)
     }
-    keys
 }
 
-// The image of the first `n` of these keys in the first bytes, as far as there is room.
-pub fn steps_image(step: u32, n: usize) -> [u8; 640] {
-    let keys = steps(step);
-    let mut image = [0u8; 640];
-    if 4097 < n {
-        return image;
+fn five_pages(alloc: Global) -> Result<Vec<u32>, AllocError> {
+    let mut keys = steps(alloc, 16777216, 256)?;
+    if let Some(key) = keys.get_mut(60) {
+        *key = 0x3c999999;
     }
-    writer::write_either(&keys[0..n], 0, &mut image);
-    image
+    Ok(keys)
 }
 
-// The image of 61 keys with 16 between them: two pages of subtries of 4 nodes in band 8, 60 and 1, every node 10.
-pub fn two_pages() -> [u8; 640] {
-    steps_image(16, 61)
-}
-
-// The same with another byte at a place.
-pub fn two_pages_with(at: usize, byte: u8) -> [u8; 640] {
-    let mut image = two_pages();
-    if at < 640 {
-        image[at] = byte;
+// Puts other bytes at some places.
+pub fn change(image: &mut [u8], bytes: &[(usize, u8)]) {
+    for (at, byte) in bytes {
+        if let Some(place) = image.get_mut(*at) {
+            *place = *byte;
+        }
     }
-    image
 }
 
-// Keys with 2 ^ 24 between them, but for rank 60: 0x3c999999 in place of 0x3c000000, so that it has room for other keys left of it.
-fn far_keys() -> [u32; 4097] {
-    let mut keys = steps(16777216);
-    keys[60] = 0x3c999999;
-    keys
+// The first `n` bytes, or all where there are fewer.
+pub fn first(image: &[u8], n: usize) -> &[u8] {
+    image.get(..n).unwrap_or(image)
 }
 
-// The image of 256 such keys: band 3 begins with page 3, and each of the bands 3 to 8 has five pages, of 60, 60, 60, 60 and 16 subtries of 4 nodes. Rank 60 is the first
-// key of the second pages.
-pub fn five_pages() -> [u8; 2112] {
-    let keys = far_keys();
-    let mut image = [0u8; 2112];
-    writer::write_either(&keys[0..256], 0, &mut image);
-    image
+// The image of the keys for a lift, 0 for version 1; no byte where they are refused.
+pub fn written(alloc: Global, keys: &[u32], lift: u32) -> Result<Vec<u8>, AllocError> {
+    Ok(image_of(alloc, keys, lift)?.unwrap_or(Vec::new(alloc)))
 }
 
-// The same with another byte at a place.
-pub fn five_pages_with(at: usize, byte: u8) -> [u8; 2112] {
-    let mut image = five_pages();
-    if at < 2112 {
-        image[at] = byte;
-    }
-    image
+// The first `n` of the keys 0, `step`, twice `step` and so on, as numbers below 2 ^ 32.
+pub fn steps(alloc: Global, step: u32, n: u32) -> Result<Vec<u32>, AllocError> {
+    (0..n).map(|i| i.wrapping_mul(step)).collect(alloc)
 }
 
-// The image of 60 such keys with the last subtrie in a page of its own, where one page has room for all 240 nodes.
-pub fn early_page() -> [u8; 640] {
-    let mut image = steps_image(16, 60);
-    image[37] = 2;
-    image[575] = 0;
-    image[577] = 59;
-    image[579] = 59;
-    image[580] = 0xaa;
-    image
+// The image of 60 keys 16 apart with the last subtrie in a page of its own, where one page has room for all 240 nodes.
+pub fn early_page(alloc: Global) -> Result<Vec<u8>, AllocError> {
+    let mut image = written(alloc, &steps(alloc, 16, 60)?, 0)?;
+    image.resize(640, 0)?;
+    change(
+        &mut image,
+        &[(37, 2), (575, 0), (577, 59), (579, 59), (580, 0xaa)],
+    );
+    Ok(image)
 }
 
 // 61 keys in 60 subtries of which the last has 5 nodes, so that a page with the others, 236 nodes, has no room for it.
-pub fn five_nodes() -> [u32; 4097] {
-    let mut keys = steps(16);
-    keys[60] = 946;
-    keys
+pub fn five_nodes(alloc: Global) -> Result<Vec<u32>, AllocError> {
+    let mut keys = steps(alloc, 16, 60)?;
+    keys.push(946)?;
+    Ok(keys)
 }
 
-// Their image.
-pub fn needed_page() -> [u8; 640] {
-    let keys = five_nodes();
-    let mut image = [0u8; 640];
-    writer::write_either(&keys[0..61], 0, &mut image);
-    image
+// The number that stands at a place.
+pub fn number(bytes: &[u8], at: usize) -> Option<u16> {
+    let high = *bytes.get(at)?;
+    let low = *bytes.get(at.checked_add(1)?)?;
+    Some(u16::from_be_bytes([high, low]))
 }
 
-// The number that stands at a place, or 65,536 where there is none.
-pub fn number(bytes: &[u8], at: usize) -> u32 {
-    if bytes.len() < 2 {
-        return 65536;
-    }
-    if bytes.len() - 2 < at {
-        return 65536;
-    }
-    join(bytes[at], bytes[at + 1])
-}
-
-fn join(high: u8, low: u8) -> u32 {
-    256 * (high as u32) + (low as u32)
+// Whether every item is this one.
+pub fn all_are<T: Copy + PartialEq>(items: &[T], item: T) -> bool {
+    items.iter().all(|x| *x == item)
 }
 
 // Whether every byte from `from` to before `end` is `byte`.
 pub fn part_is(bytes: &[u8], from: usize, end: usize, byte: u8) -> bool {
-    if end < from {
-        return false;
-    }
-    if bytes.len() < end {
-        return false;
-    }
-    all_bytes(&bytes[from..end], byte)
-}
-
-// Whether every byte is `byte`.
-pub fn all_bytes(bytes: &[u8], byte: u8) -> bool {
-    let mut i: usize = 0;
-    while i < bytes.len() {
-        if bytes[i] != byte {
-            return false;
-        }
-        i += 1;
-    }
-    true
-}
-
-// Whether every number is `x`.
-pub fn all_numbers(numbers: &[u32], x: u32) -> bool {
-    let mut i: usize = 0;
-    while i < numbers.len() {
-        if numbers[i] != x {
-            return false;
-        }
-        i += 1;
-    }
-    true
+    bytes.get(from..end).is_some_and(|part| all_are(part, byte))
 }

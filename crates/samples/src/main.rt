@@ -25,98 +25,97 @@ mod sold_out;
 mod spread;
 mod still_locked;
 
+use say::Tally;
 use std::io;
 
-// The eight-page lookup.
-fn by_eight_pages(tally: say::Tally) -> say::Tally {
-    let mut t = eight_pages::single_pages(tally);
-    t = eight_pages::subtries(t);
-    t = eight_pages::dense_pages(t);
-    t = eight_pages::far_apart(t);
-    t = children::eight(t);
-    t = children::siblings(t);
-    t = eight_pages::headers(t);
-    t = eight_refusals::band_pages(t);
-    t = eight_refusals::two_heads(t);
-    t = eight_refusals::root_counts(t);
-    t = eight_refusals::page_nodes(t);
-    t = eight_refusals::links(t);
-    t = eight_refusals::several_links(t);
-    t = eight_refusals::large_links(t);
-    t = eight_refusals::large_figures(t);
-    t = beside::order(t);
-    t = beside::exchanged(t);
-    t = beside::last_pages(t);
-    t = beside::other_pages(t);
-    t = beside::packing(t);
-    beside::sums(t)
-}
-
-// The number that comes with "absent": of both lookups in sound images, and of the eight-page lookup in others.
-fn smaller_keys(tally: say::Tally) -> say::Tally {
-    let mut t = between::ends(tally);
-    t = between::neighbours(t);
-    t = between::first_levels(t);
-    t = between::fourth_levels(t);
-    t = between::after_pages(t);
-    t = between::before_pages(t);
-    t = between::longer_lists(t);
-    t = figures::next_band(t);
-    t = figures::further_bands(t);
-    t = figures::other_pages(t);
-    t = figures::limits(t);
-    figures::wrong_counters(t)
-}
-
-// One sale, one withdrawal.
-fn changed_lists(tally: say::Tally) -> say::Tally {
-    let mut t = edits::ranks(tally);
-    t = edits::smallest(t);
-    t = edits::records(t);
-    t = edits::outputs(t);
-    t = sold_out::most(t);
-    t = sold_out::pages(t);
-    t = sold_out::kinds(t);
-    still_locked::lockouts(t)
-}
+// The groups of cases, in the order in which they are printed.
+const GROUPS: [fn(&mut Tally) -> io::Result<()>; 74] = [
+    plates::dense,
+    plates::packings,
+    plates::far_apart,
+    plates::printed,
+    refusals::headers,
+    refusals::counts,
+    refusals::inputs,
+    refusals::empties,
+    refusals::heads,
+    refusals::nodes,
+    refusals::packed,
+    questions::lists,
+    questions::buffers,
+    questions::admissions,
+    questions::rectangles,
+    questions::ranks,
+    // The eight-page lookup.
+    eight_pages::single_pages,
+    eight_pages::subtries,
+    eight_pages::dense_pages,
+    eight_pages::far_apart,
+    children::eight,
+    children::siblings,
+    eight_pages::headers,
+    eight_refusals::band_pages,
+    eight_refusals::two_heads,
+    eight_refusals::root_counts,
+    eight_refusals::page_nodes,
+    eight_refusals::links,
+    eight_refusals::several_links,
+    eight_refusals::large_links,
+    eight_refusals::large_figures,
+    beside::order,
+    beside::exchanged,
+    beside::last_pages,
+    beside::other_pages,
+    beside::packing,
+    beside::sums,
+    // The number that comes with "absent": of both lookups in sound images, and of the eight-page lookup in others.
+    between::ends,
+    between::neighbours,
+    between::first_levels,
+    between::fourth_levels,
+    between::after_pages,
+    between::before_pages,
+    between::longer_lists,
+    figures::next_band,
+    figures::further_bands,
+    figures::other_pages,
+    figures::limits,
+    figures::wrong_counters,
+    gates::lockouts,
+    gates::limits,
+    holders::passed_back,
+    holders::other_holders,
+    holders::one_admission,
+    spread::three_records,
+    spread::several_pages,
+    lanes::lanes,
+    lanes::lengths,
+    lanes::empty_list,
+    lanes::largest_count,
+    lanes::each_lane,
+    lifts::headers,
+    lifts::writers,
+    lifts::images,
+    lifts::gates,
+    lifts::gate_order,
+    // One sale, one withdrawal.
+    edits::ranks,
+    edits::smallest,
+    edits::records,
+    edits::outputs,
+    sold_out::most,
+    sold_out::pages,
+    sold_out::kinds,
+    still_locked::lockouts,
+];
 
 fn main(rt: HostRuntime) -> io::Result<()> {
-    let mut tally = say::none(rt.stdout());
-    tally = plates::dense(tally);
-    tally = plates::packings(tally);
-    tally = plates::far_apart(tally);
-    tally = plates::printed(tally);
-    tally = refusals::headers(tally);
-    tally = refusals::counts(tally);
-    tally = refusals::inputs(tally);
-    tally = refusals::empties(tally);
-    tally = refusals::heads(tally);
-    tally = refusals::nodes(tally);
-    tally = refusals::packed(tally);
-    tally = questions::lists(tally);
-    tally = questions::buffers(tally);
-    tally = questions::admissions(tally);
-    tally = questions::rectangles(tally);
-    tally = questions::ranks(tally);
-    tally = by_eight_pages(tally);
-    tally = smaller_keys(tally);
-    tally = gates::lockouts(tally);
-    tally = gates::limits(tally);
-    tally = holders::passed_back(tally);
-    tally = holders::other_holders(tally);
-    tally = holders::one_admission(tally);
-    tally = spread::three_records(tally);
-    tally = spread::several_pages(tally);
-    tally = lanes::lanes(tally);
-    tally = lanes::lengths(tally);
-    tally = lanes::empty_list(tally);
-    tally = lanes::largest_count(tally);
-    tally = lanes::each_lane(tally);
-    tally = lifts::headers(tally);
-    tally = lifts::writers(tally);
-    tally = lifts::images(tally);
-    tally = lifts::gates(tally);
-    tally = lifts::gate_order(tally);
-    tally = changed_lists(tally);
-    say::count(tally)
+    let mut tally = Tally::new(rt.stdout(), rt.alloc());
+    for group in GROUPS {
+        group(&mut tally)?;
+    }
+    if !answers::have_numbers() {
+        println!(rt; "the numbers of the refusals are WRONG")?;
+    }
+    tally.finish()
 }

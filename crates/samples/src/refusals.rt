@@ -1,13 +1,16 @@
 // Version 1 images that questions 1 to 13 refuse, and images at the other side of the same edges.
-use crate::images::{early_page, needed_page, one_key, steps_image, two_pages, with_byte};
-use crate::judge::{accepts, refuses, refuses_byte, refuses_part, refuses_two, refuses_zeros};
+use crate::images::{Base, early_page, first, five_nodes, steps, written};
+use crate::judge::{accepts, refuses, refuses_zeros};
 use crate::say::Tally;
+use format::Refusal;
+use std::io;
 
 // 1 to 5.
-pub fn headers(tally: Tally) -> Tally {
-    let names: &[u8] = b"\
-        1: no byte\n\
-        1: 63 bytes\n\
+pub fn headers(tally: &mut Tally) -> io::Result<()> {
+    let image = Base::OneKey.image(tally.alloc)?;
+    refuses(tally, "1: no byte", &[], Refusal::Header)?;
+    refuses(tally, "1: 63 bytes", first(&image, 63), Refusal::Header)?;
+    let names = "\
         2: first byte of the mark\n\
         2: last byte of the mark\n\
         3: version 0\n\
@@ -18,28 +21,23 @@ pub fn headers(tally: Tally) -> Tally {
         5: byte 5\n\
         5: byte 40\n\
         5: byte 63\n";
-    let key = one_key();
-    let image: &[u8] = &key;
-    let mut t = refuses_part(tally, names, image, 0, 1);
-    t = refuses_part(t, names, image, 63, 1);
-    t = refuses_byte(t, names, 0, 0x4d, 2);
-    t = refuses_byte(t, names, 2, 0x55, 2);
-    t = refuses_byte(t, names, 4, 0, 3);
-    t = refuses_byte(t, names, 4, 3, 3);
-    t = refuses_byte(t, names, 3, 1, 3);
-    t = many_keys(t, names);
-    t = refuses_byte(t, names, 5, 1, 5);
-    t = refuses_byte(t, names, 40, 1, 5);
-    refuses_byte(t, names, 63, 128, 5)
-}
-
-// 4, on both sides.
-fn many_keys(tally: Tally, names: &[u8]) -> Tally {
-    let mut image = with_byte(6, 16);
-    image[7] = 0;
-    let t = refuses(tally, names, &image, 13);
-    image[7] = 1;
-    refuses(t, names, &image, 4)
+    let cases: [(&[(usize, u8)], Refusal); 10] = [
+        (&[(0, 0x4d)], Refusal::Mark),
+        (&[(2, 0x55)], Refusal::Mark),
+        (&[(4, 0)], Refusal::Version),
+        (&[(4, 3)], Refusal::Version),
+        (&[(3, 1)], Refusal::Version),
+        (&[(6, 16), (7, 0)], Refusal::Links),
+        (&[(6, 16), (7, 1)], Refusal::KeyCount),
+        (&[(5, 1)], Refusal::ZeroBytes),
+        (&[(40, 1)], Refusal::ZeroBytes),
+        (&[(63, 128)], Refusal::ZeroBytes),
+    ];
+    for (name, (bytes, refusal)) in names.lines().zip(cases) {
+        let image = Base::OneKey.with(tally.alloc, bytes)?;
+        refuses(tally, name, &image, refusal)?;
+    }
+    Ok(())
 }
 
 // The empty list's image with other low bytes of the key count and of band 8's root count.
@@ -55,52 +53,67 @@ fn empty_with(keys: u8, roots: u8) -> [u8; 64] {
 }
 
 // 7, without pages.
-pub fn empties(tally: Tally) -> Tally {
-    let names: &[u8] = b"\
-        the image of the empty list\n\
-        7: the empty list with a root\n\
-        7: a key without pages\n";
-    let mut t = accepts(tally, names, &empty_with(0, 0), 64);
-    t = refuses(t, names, &empty_with(0, 1), 7);
-    refuses(t, names, &empty_with(1, 0), 7)
+pub fn empties(tally: &mut Tally) -> io::Result<()> {
+    accepts(tally, "the image of the empty list", &empty_with(0, 0))?;
+    let root = empty_with(0, 1);
+    let key = empty_with(1, 0);
+    refuses(
+        tally,
+        "7: the empty list with a root",
+        &root,
+        Refusal::BandCounts,
+    )?;
+    refuses(tally, "7: a key without pages", &key, Refusal::BandCounts)
 }
 
 // 6 and 7.
-pub fn counts(tally: Tally) -> Tally {
-    let names: &[u8] = b"\
-        the image of key 0\n\
-        6: 64 bytes of 576\n\
-        6: 575 bytes of 576\n\
-        6: one byte more\n\
+pub fn counts(tally: &mut Tally) -> io::Result<()> {
+    let mut longer = Base::OneKey.image(tally.alloc)?;
+    accepts(tally, "the image of key 0", &longer)?;
+    longer.push(0)?;
+    let names = "6: 64 bytes of 576\n6: 575 bytes of 576\n6: one byte more\n";
+    for (name, size) in names.lines().zip([64, 575, 577]) {
+        refuses(tally, name, first(&longer, size), Refusal::Length)?;
+    }
+    let names = "\
         6: a page count one more\n\
         7: key count 0 with pages\n\
         7: band 1 with two roots\n\
         7: band 3 without a root\n";
-    let key = steps_image(1, 1);
-    let image: &[u8] = &key;
-    let mut t = accepts(tally, names, image, 576);
-    t = refuses_part(t, names, image, 64, 6);
-    t = refuses_part(t, names, image, 575, 6);
-    t = refuses_part(t, names, image, 577, 6);
-    t = refuses_byte(t, names, 13, 2, 6);
-    t = refuses_byte(t, names, 7, 0, 7);
-    t = refuses_byte(t, names, 11, 2, 7);
-    refuses_byte(t, names, 19, 0, 7)
+    let cases = [
+        (13, 2, Refusal::Length),
+        (7, 0, Refusal::BandCounts),
+        (11, 2, Refusal::BandCounts),
+        (19, 0, Refusal::BandCounts),
+    ];
+    for (name, (at, byte, refusal)) in names.lines().zip(cases) {
+        let image = Base::OneKey.with(tally.alloc, &[(at, byte)])?;
+        refuses(tally, name, &image, refusal)?;
+    }
+    Ok(())
 }
 
 // The listing program's input: longer than 65,536 bytes is 6, whatever else is wrong.
-pub fn inputs(tally: Tally) -> Tally {
-    let names: &[u8] = b"\
-        2: 65,536 bytes of zeros, listed\n\
-        6: 65,537 bytes of zeros, listed\n";
-    let t = refuses_zeros(tally, names, 65536, 2);
-    refuses_zeros(t, names, 65537, 6)
+pub fn inputs(tally: &mut Tally) -> io::Result<()> {
+    refuses_zeros(
+        tally,
+        "2: 65,536 bytes of zeros, listed",
+        65536,
+        Refusal::Mark,
+    )?;
+    refuses_zeros(
+        tally,
+        "6: 65,537 bytes of zeros, listed",
+        65537,
+        Refusal::Length,
+    )
 }
 
 // 8 and 9.
-pub fn heads(tally: Tally) -> Tally {
-    let names: &[u8] = b"\
-        61 subtries in two pages\n\
+pub fn heads(tally: &mut Tally) -> io::Result<()> {
+    let image = Base::TwoPages.image(tally.alloc)?;
+    accepts(tally, "61 subtries in two pages", &image)?;
+    let names = "\
         8: T of a band's first page\n\
         8: B of a band's first page\n\
         8: B of a later page one less\n\
@@ -109,20 +122,26 @@ pub fn heads(tally: Tally) -> Tally {
         9: no root, by T of the next page\n\
         13: a root count one less, asked after the band above\n\
         11: 59 roots, by T of the next page\n";
-    let mut t = accepts(tally, names, &two_pages(), 640);
-    t = refuses_byte(t, names, 65, 1, 8);
-    t = refuses_byte(t, names, 515, 1, 8);
-    t = refuses_two(t, names, 579, 59, 8);
-    t = refuses_two(t, names, 579, 61, 8);
-    t = refuses_two(t, names, 577, 61, 9);
-    t = refuses_two(t, names, 577, 0, 9);
-    t = refuses_two(t, names, 39, 60, 13);
-    refuses_two(t, names, 577, 59, 11)
+    let cases = [
+        (Base::OneKey, 65, 1, Refusal::Counters),
+        (Base::OneKey, 515, 1, Refusal::Counters),
+        (Base::TwoPages, 579, 59, Refusal::Counters),
+        (Base::TwoPages, 579, 61, Refusal::Counters),
+        (Base::TwoPages, 577, 61, Refusal::Roots),
+        (Base::TwoPages, 577, 0, Refusal::Roots),
+        (Base::TwoPages, 39, 60, Refusal::Links),
+        (Base::TwoPages, 577, 59, Refusal::Padding),
+    ];
+    for (name, (base, at, byte, refusal)) in names.lines().zip(cases) {
+        let image = base.with(tally.alloc, &[(at, byte)])?;
+        refuses(tally, name, &image, refusal)?;
+    }
+    Ok(())
 }
 
 // 10, 11 and 13.
-pub fn nodes(tally: Tally) -> Tally {
-    let names: &[u8] = b"\
+pub fn nodes(tally: &mut Tally) -> io::Result<()> {
+    let names = "\
         10: the first node 00\n\
         10: the fourth node 00\n\
         10: 243 nodes\n\
@@ -131,23 +150,35 @@ pub fn nodes(tally: Tally) -> Tally {
         13: two out-links to one root\n\
         13: two out-links and one key\n\
         13: one out-link and two keys\n";
-    let mut t = refuses_byte(tally, names, 68, 0x2a, 10);
-    t = refuses_byte(t, names, 516, 0xa8, 10);
-    t = refuses_two(t, names, 516, 0xea, 10);
-    t = refuses_byte(t, names, 69, 0x40, 11);
-    t = refuses_byte(t, names, 575, 1, 11);
-    t = refuses_byte(t, names, 68, 0xab, 13);
-    t = refuses_byte(t, names, 516, 0xab, 13);
-    refuses_byte(t, names, 7, 2, 13)
+    let cases = [
+        (Base::OneKey, 68, 0x2a, Refusal::Nodes),
+        (Base::OneKey, 516, 0xa8, Refusal::Nodes),
+        (Base::TwoPages, 516, 0xea, Refusal::Nodes),
+        (Base::OneKey, 69, 0x40, Refusal::Padding),
+        (Base::OneKey, 575, 1, Refusal::Padding),
+        (Base::OneKey, 68, 0xab, Refusal::Links),
+        (Base::OneKey, 516, 0xab, Refusal::Links),
+        (Base::OneKey, 7, 2, Refusal::Links),
+    ];
+    for (name, (base, at, byte, refusal)) in names.lines().zip(cases) {
+        let image = base.with(tally.alloc, &[(at, byte)])?;
+        refuses(tally, name, &image, refusal)?;
+    }
+    Ok(())
 }
 
 // 12.
-pub fn packed(tally: Tally) -> Tally {
-    let names: &[u8] = b"\
-        12: 60 subtries, 240 nodes in one page\n\
-        12: 236 nodes and a page for 4 more\n\
-        12: 236 nodes and a page for 5 more\n";
-    let mut t = accepts(tally, names, &steps_image(16, 60), 576);
-    t = refuses(t, names, &early_page(), 12);
-    accepts(t, names, &needed_page(), 640)
+pub fn packed(tally: &mut Tally) -> io::Result<()> {
+    let alloc = tally.alloc;
+    let one_page = written(alloc, &steps(alloc, 16, 60)?, 0)?;
+    accepts(tally, "12: 60 subtries, 240 nodes in one page", &one_page)?;
+    let early = early_page(alloc)?;
+    refuses(
+        tally,
+        "12: 236 nodes and a page for 4 more",
+        &early,
+        Refusal::Packing,
+    )?;
+    let needed = written(alloc, &five_nodes(alloc)?, 0)?;
+    accepts(tally, "12: 236 nodes and a page for 5 more", &needed)
 }

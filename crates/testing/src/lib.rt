@@ -2,14 +2,10 @@
 // Nothing here uses the format's crates but for its types, so that an answer is held against another way to it.
 #![tactic(auto)]
 
-mod compare;
 mod lists;
 mod random;
 mod sorted;
 
-pub use compare::{line_end, one_more, starts_with, starts_with_bytes};
-pub use lists::{clustered, put_at, spaced, take_out};
-pub use random::{Random, below, next};
-pub use sorted::{
-    count_inside, holder_of, is_inside, key_of, rank_of, rectangle, slot_of, whole_square,
-};
+pub use lists::{clustered, spaced};
+pub use random::Random;
+pub use sorted::{count_inside, holder_of, is_inside, key_of, rank_of, rectangle, slot_of};

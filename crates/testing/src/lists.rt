@@ -1,8 +1,8 @@
 // Lists of many shapes, as ascending keys.
-ghost use Rattle.std.specs.Prelude.{◌≤◌, ◌<◌, length, ◌≡◌};
+ghost use Rattle.std.specs.Prelude.{◌≤◌, ◌<◌, length};
 
-use crate::random::{Random, below, next};
-use crate::sorted::{key_of, rank_of};
+use crate::random::Random;
+use crate::sorted::key_of;
 
 // Fills the first places with keys from `first` on, each 1 to `gap` above the one before it, as many as there are places and keys below 2 ^ 32. Returns
 // how many.
@@ -10,70 +10,23 @@ pub fn spaced(keys: &mut [u32], first: u32, gap: u32, seed: Random) -> usize
     ensures { result ≤ length keys.old }
 {
     let mut random = seed;
-    let mut key = first as u64;
-    let mut n = 0;
-    while n < keys.len() {
-        if 4294967296 <= key {
+    let mut next = Some(first);
+    for (n, place) in keys.iter_mut().enumerate() {
+        let Some(key) = next else {
             return n;
-        }
-        keys[n] = key as u32;
-        n += 1;
-        random = next(random);
-        key += 1 + step(random, gap);
+        };
+        *place = key;
+        random = random.next();
+        next = key
+            .checked_add(1)
+            .and_then(|after| after.checked_add(step(random, gap)));
     }
-    n
+    keys.len()
 }
 
-fn step(random: Random, gap: u32) -> u64
-    ensures { result < 4294967296 }
-{
-    if gap == 0 {
-        return 0;
-    }
-    below(random, gap) as u64
-}
-
-// Moves the numbers from `place` to `n` up by one place.
-fn move_up(numbers: &mut [u32], place: usize, n: usize)
-    requires { (place ≤ n) × (n < length numbers.old) }
-    ensures { length numbers.new ≡ length numbers.old }
-{
-    let mut i = n;
-    while place < i {
-        numbers[i] = numbers[i - 1];
-        i -= 1;
-    }
-}
-
-// Puts a number at a place among the first `n`, if there is room: those from there on move up.
-pub fn put_at(numbers: &mut [u32], n: usize, place: usize, x: u32)
-    ensures { length numbers.new ≡ length numbers.old }
-{
-    if numbers.len() <= n {
-        return;
-    }
-    if n < place {
-        return;
-    }
-    move_up(numbers, place, n);
-    numbers[place] = x;
-}
-
-// Takes the number at a place out of the first `n`: those after it move down.
-pub fn take_out(numbers: &mut [u32], n: usize, place: usize)
-    ensures { length numbers.new ≡ length numbers.old }
-{
-    if numbers.len() < n {
-        return;
-    }
-    if n <= place {
-        return;
-    }
-    let mut next = place + 1;
-    while next < n {
-        numbers[next - 1] = numbers[next];
-        next += 1;
-    }
+// A number below `n`, or 0 where there is none.
+fn step(random: Random, n: u32) -> u32 {
+    if n == 0 { 0 } else { random.below(n) }
 }
 
 // Puts a key in its place among the first `n`, if it is not there and there is room. Returns how many there are then.
@@ -84,11 +37,11 @@ fn insert(keys: &mut [u32], n: usize, key: u32) -> usize
     if n == keys.len() {
         return n;
     }
-    let place = rank_of(keys, n, key);
-    if keys[place] == key && place < n {
+    let Err(place) = keys[..n].binary_search(&key) else {
         return n;
-    }
-    put_at(keys, n, place, key);
+    };
+    keys[place..n + 1].rotate_right(1);
+    keys[place] = key;
     n + 1
 }
 
@@ -98,20 +51,15 @@ pub fn clustered(keys: &mut [u32], turns: u32, season: u32, each: u32, seed: Ran
 {
     let mut random = seed;
     let mut n = 0;
-    let mut i: u32 = 0;
-    while i < turns {
-        random = next(random);
+    for i in 0..turns {
+        random = random.next();
         n = insert(keys, n, draw(random, i, season, each));
-        i += 1;
     }
     n
 }
 
 fn holder_of(i: u32, each: u32) -> u16 {
-    if each == 0 {
-        return 0;
-    }
-    (i / each % 21845 * 3) as u16
+    (i.checked_div(each).unwrap_or(0) % 21845 * 3) as u16
 }
 
 // The key of draw `i`: a holder for every `each` draws, and any slot of the season.

@@ -3,48 +3,29 @@ ghost use Rattle.std.specs.Prelude.{◌≤◌, length};
 
 use format::{Range, Rectangle};
 
-// `unit` where the number is odd, else 0.
-fn if_odd(x: u64, unit: u64) -> u64
-    ensures { result ≤ unit }
-{
-    if x % 2 == 1 { unit } else { 0 }
-}
-
 // The key of a holder and a slot, bit by bit.
 pub fn key_of(holder: u16, slot: u16) -> u32 {
-    let mut key: u64 = 0;
-    let mut h = holder as u64;
-    let mut s = slot as u64;
-    let mut unit: u64 = 1;
-    let mut i: u32 = 0;
-    while i < 16 {
-        key = (key + if_odd(s, unit) + if_odd(h, 2 * unit)) % 4294967296;
-        h /= 2;
-        s /= 2;
-        unit = unit * 4 % 4294967296;
-        i += 1;
+    let mut key = 0;
+    for i in 0..16u32 {
+        let pair = u32::from(holder >> i & 1) << 1 | u32::from(slot >> i & 1);
+        key |= pair << (2 * i);
     }
-    key as u32
+    key
 }
 
 // Every second bit of `key`, from bit 0 on.
 fn even_bits(key: u32) -> u16 {
-    let mut left = key as u64;
-    let mut bits: u64 = 0;
-    let mut unit: u64 = 1;
-    let mut i: u32 = 0;
-    while i < 16 {
-        bits = (bits + if_odd(left, unit)) % 65536;
-        left /= 4;
-        unit = unit * 2 % 65536;
-        i += 1;
+    let mut bits = 0;
+    for i in 0..16u32 {
+        let bit = (key >> (2 * i) & 1) as u16;
+        bits |= bit << i;
     }
-    bits as u16
+    bits
 }
 
 // The holder of a key.
 pub fn holder_of(key: u32) -> u16 {
-    even_bits(key / 2)
+    even_bits(key >> 1)
 }
 
 // The slot of a key.
@@ -52,53 +33,28 @@ pub fn slot_of(key: u32) -> u16 {
     even_bits(key)
 }
 
+fn is_in(number: u16, range: Range) -> bool {
+    range.low <= number && number <= range.high
+}
+
 // Whether the key's holder and slot lie in the rectangle.
 pub fn is_inside(key: u32, rectangle: Rectangle) -> bool {
-    let holder = holder_of(key);
-    let slot = slot_of(key);
-    let holders = rectangle.holders;
-    let slots = rectangle.slots;
-    if holder < holders.low {
-        return false;
-    }
-    if holders.high < holder {
-        return false;
-    }
-    if slot < slots.low {
-        return false;
-    }
-    slot <= slots.high
+    is_in(holder_of(key), rectangle.holders) && is_in(slot_of(key), rectangle.slots)
 }
 
-// How many of the first `n` keys are smaller.
-pub fn rank_of(keys: &[u32], n: usize, key: u32) -> usize
-    requires { n ≤ length keys.now }
-    ensures { result ≤ n }
+// How many of the keys are smaller.
+pub fn rank_of(keys: &[u32], key: u32) -> usize
+    ensures { result ≤ length keys.now }
 {
-    let mut i = 0;
-    while i < n {
-        if key <= keys[i] {
-            return i;
-        }
-        i += 1;
-    }
-    i
+    keys.iter().take_while(|other| **other < key).count()
 }
 
-// How many of the first `n` keys are inside.
-pub fn count_inside(keys: &[u32], n: usize, rectangle: Rectangle) -> usize
-    requires { n ≤ length keys.now }
-    ensures { result ≤ n }
+// How many of the keys are inside.
+pub fn count_inside(keys: &[u32], rectangle: Rectangle) -> usize
+    ensures { result ≤ length keys.now }
 {
-    let mut members = 0;
-    let mut i = 0;
-    while i < n {
-        if is_inside(keys[i], rectangle) {
-            members += 1;
-        }
-        i += 1;
-    }
-    members
+    let members = keys.iter().filter(|key| is_inside(**key, rectangle));
+    members.count()
 }
 
 pub fn rectangle(low_holder: u16, high_holder: u16, low_slot: u16, high_slot: u16) -> Rectangle {
@@ -112,8 +68,4 @@ pub fn rectangle(low_holder: u16, high_holder: u16, low_slot: u16, high_slot: u1
             high: high_slot,
         },
     }
-}
-
-pub fn whole_square() -> Rectangle {
-    rectangle(0, 65535, 0, 65535)
 }

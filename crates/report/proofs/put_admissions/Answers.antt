@@ -1,43 +1,12 @@
--- `report::put_admissions` meets its contract: 11 stores in a row. Assumes nothing.
-use mathlib.Core.Path.{refl}
+-- `report::put_admissions` meets its contract. Assumes nothing.
+use mathlib.Core.Path.{sym, ap, ◌∙◌}
+use mathlib.Core.List.{◌++◌}
 use native.Mathlib.Omega.{arith}
-use lib.ListN.{length-set}
+use lib.ListN.{drop}
+use lib.Seq.{sets-eq}
 use Rattle.format.specs.Text.{admissions_word}
 use Rattle.report.proofs.put_admissions.Goals as goal
 
-pub bounds-out-1 : goal.bounds-out-1
-bounds-out-1 c = simp length-set (omega arith)
-
-pub bounds-out-2 : goal.bounds-out-2
-bounds-out-2 c = simp length-set (omega arith)
-
-pub bounds-out-3 : goal.bounds-out-3
-bounds-out-3 c = simp length-set (omega arith)
-
-pub bounds-out-4 : goal.bounds-out-4
-bounds-out-4 c = simp length-set (omega arith)
-
-pub bounds-out-5 : goal.bounds-out-5
-bounds-out-5 c = simp length-set (omega arith)
-
-pub bounds-out-6 : goal.bounds-out-6
-bounds-out-6 c = simp length-set (omega arith)
-
-pub bounds-out-7 : goal.bounds-out-7
-bounds-out-7 c = simp length-set (omega arith)
-
-pub bounds-out-8 : goal.bounds-out-8
-bounds-out-8 c = simp length-set (omega arith)
-
-pub bounds-out-9 : goal.bounds-out-9
-bounds-out-9 c = simp length-set (omega arith)
-
-pub bounds-out-10 : goal.bounds-out-10
-bounds-out-10 c = simp length-set (omega arith)
-
-pub shape_of-out : goal.shape_of-out
-shape_of-out c = simp length-set
-
 pub returns : goal.returns
 unfolding admissions_word
-returns c = refl
+returns c = ap (◌++ drop 11 c.args.out.now) c.copy_from_slice.ensures.after ∙ sym (sets-eq admissions_word c.args.out.now 0 (omega arith))

@@ -7,6 +7,6 @@ pub returns : goal.returns
 returns c =
     put_row c.args.out.now c.put_field-slot_at.new.out c.put_field-rank_at.new.out c.put_field.new.out
     c.args.at c.put_field-slot_at.result c.put_field-rank_at.result c.put_field.result c.args.key c.args.rank
-    c.wide.result c.wide-2.result
-    (c.wide.ensures.0 ∙ c.unweave-admission.ensures.0) (c.wide-2.ensures.0 ∙ c.unweave-admission.ensures.1)
+    c.from.result c.from-2.result
+    (c.from.ensures ∙ c.unweave-admission.ensures.0) (c.from-2.ensures ∙ c.unweave-admission.ensures.1)
     c.put_field-slot_at.ensures c.put_field-rank_at.ensures c.put_field.ensures

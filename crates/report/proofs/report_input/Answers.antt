@@ -1,9 +1,7 @@
 -- `report::report_input` meets its contract. Assumes nothing.
-use mathlib.Core.Path.{◌≡◌, sym, ap, subst}
+use mathlib.Core.Path.{◌≡◌, sym, subst}
 use mathlib.Core.List.{List}
 use Prim.Native.Nat.{ℕ}
-use native.Mathlib.Nat.{sub-zero}
-use lib.ListN.{take}
 use lib.Seq.{take_all}
 use Rattle.report.specs.Outcomes.{Reported}
 use Rattle.report.proofs.report_input.Goals as goal
@@ -14,7 +12,3 @@ of_same {before = before} {after = after} {size = size} e p = subst (λ (l : Lis
 -- all places of the array
 pub returns-then-all-n : goal.returns-then-all-n
 returns-then-all-n c = of_same (sym (take_all c.args.n c.args.input.now c.if-all-n.true)) c.report.ensures
-
--- its first n places
-pub returns : goal.returns
-returns c = of_same (ap (λ (m : ℕ). take m c.args.input.now) (sub-zero c.args.n)) c.report-2.ensures
