@@ -17,6 +17,7 @@ mod images;
 mod judge;
 mod lanes;
 mod lifts;
+mod numbers;
 mod plates;
 mod questions;
 mod refusals;
@@ -114,7 +115,7 @@ fn main(rt: HostRuntime) -> io::Result<()> {
     for group in GROUPS {
         group(&mut tally)?;
     }
-    if !answers::have_numbers() {
+    if !numbers::are_right() {
         println!(rt; "the numbers of the refusals are WRONG")?;
     }
     tally.finish()

@@ -1,0 +1,4 @@
+-- Laws for what the test programs share.
+
+-- an image of a list that the writer gave
+mod Images
