@@ -22,16 +22,19 @@ pub struct Subtrie {
     pub link: OutLink,
 }
 
-// The subtrie of a root, from where the reading of its band stands if that is the root. `advance` is called in two places, so that it is not compiled in here
-// and this function is compiled into the loops that call it.
+// The subtrie of a root, from where the reading of its band stands if that is the root. `seek` and `advance` are called in two places each, so that they are not
+// compiled in here and this function is compiled into the loops that call it.
 pub fn next_subtrie(image: &[u8], spots: &mut [Spot; 8], number: usize, root: Root) -> Subtrie
     requires { (Ready image.now) × (1 ≤ number) × (number ≤ 8) × (root.0 < root_count image.now number) × (Spots image.now spots.old) }
     ensures { (SubtrieRead image.now number (root_prefix image.now number root.0) result.set result.link.0) × (Spots image.now spots.new) }
 {
     let spot = &mut spots[number - 1];
-    if spot.root.0 != root.0 || spot.end.0 <= root.0 {
+    if spot.root.0 != root.0 {
         spot.seek(image, number, root);
         return spot.advance(image, number);
+    }
+    if spot.end.0 <= root.0 {
+        spot.seek(image, number, root);
     }
     spot.advance(image, number)
 }
