@@ -33,11 +33,11 @@ members_few img a qs rectangle n e =
     let c = checked img (none_of_yes (image_questions img) (all_left Yes (image_questions img) qs (yes_of_none (image_questions img ++ qs) none-no))) in
     omega (arith, select_short (inside rectangle) (keys_of img), (listed img a c).keys.count_is, c.header.few)
 
-count_few : (img : List ℕ) → All Byte img → (rectangle : Rectangle) (n : ℕ) → count img rectangle ≡ returns n → n ≤ 4096
+pub count_few : (img : List ℕ) → All Byte img → (rectangle : Rectangle) (n : ℕ) → count img rectangle ≡ returns n → n ≤ 4096
 unfolding count
 count_few img a rectangle n e = members_few img a _ rectangle n e
 
-list_few : (img : List ℕ) → All Byte img → (rectangle : Rectangle) (buffer : List ℕ) (n : ℕ) → listing img rectangle buffer ≡ returns n → n ≤ 4096
+pub list_few : (img : List ℕ) → All Byte img → (rectangle : Rectangle) (buffer : List ℕ) (n : ℕ) → listing img rectangle buffer ≡ returns n → n ≤ 4096
 unfolding listing
 list_few img a rectangle buffer n e = members_few img a _ rectangle n e
 
@@ -57,15 +57,33 @@ lift_few img n e =
 abbrev pub Fits : Result ℕ Refusal → Type 0
 Fits answered = IfOk answered (λ n. n < 9223372036854775808)
 
+-- an answer whose number, where it has one, is at most a bound
+abbrev pub Within : ℕ → Result ℕ Refusal → Type 0
+Within m answered = IfOk answered (λ n. n ≤ m)
+
+pub within_of : (o : Outcome ℕ) (m : ℕ) → ((n : ℕ) → o ≡ returns n → n ≤ m) → (r : Result ℕ Refusal) → outcome_of r ≡ o → Within m r
+within_of o m f (Ok n) e = f n (sym e)
+within_of o m f (Err refusal) e = tt
+
+-- a bound below 2 ^ 63 makes it fit
+pub fits : (m : ℕ) → m < 9223372036854775808 → (r : Result ℕ Refusal) → Within m r → Fits r
+fits m h (Ok n) w = omega (arith, w)
+fits m h (Err refusal) w = tt
+
 pub fits_of : (o : Outcome ℕ) (m : ℕ) → m < 9223372036854775808 → ((n : ℕ) → o ≡ returns n → n ≤ m) → (r : Result ℕ Refusal) → outcome_of r ≡ o → Fits r
-fits_of o m h f (Ok n) e = omega (arith, f n (sym e))
-fits_of o m h f (Err refusal) e = tt
+fits_of o m h f r e = fits m h r (within_of o m f r e)
+
+pub check_within : (img : List ℕ) (r : Result ℕ Refusal) → outcome_of r ≡ check img → Within 4096 r
+check_within img r e = within_of (check img) 4096 (check_few img) r e
 
 pub check_fits : (img : List ℕ) (r : Result ℕ Refusal) → outcome_of r ≡ check img → Fits r
-check_fits img r e = fits_of (check img) 4096 (omega arith) (check_few img) r e
+check_fits img r e = fits 4096 (omega arith) r (check_within img r e)
+
+pub lift_within : (img : List ℕ) (r : Result ℕ Refusal) → outcome_of r ≡ lift img → Within 4096 r
+lift_within img r e = within_of (lift img) 4096 (lift_few img) r e
 
 pub lift_fits : (img : List ℕ) (r : Result ℕ Refusal) → outcome_of r ≡ lift img → Fits r
-lift_fits img r e = fits_of (lift img) 4096 (omega arith) (lift_few img) r e
+lift_fits img r e = fits 4096 (omega arith) r (lift_within img r e)
 
 pub count_fits : (img : List ℕ) → All Byte img → (rectangle : Rectangle) (r : Result ℕ Refusal) → outcome_of r ≡ count img rectangle → Fits r
 count_fits img a rectangle r e = fits_of (count img rectangle) 4096 (omega arith) (count_few img a rectangle) r e
@@ -79,7 +97,7 @@ unfolding flat_map page_places
 page_places_lem [] = refl
 page_places_lem (p ∷ ps) = omega (arith, page_places_lem ps)
 
-altered_few : (img buffer : List ℕ) (n : ℕ) → repair img buffer ≡ returns n → n ≤ 9 + 2 * (length img / 64)
+pub altered_few : (img buffer : List ℕ) (n : ℕ) → repair img buffer ≡ returns n → n ≤ 9 + 2 * (length img / 64)
 unfolding repair differing number_places
 altered_few img buffer n e =
     let pages = numbers_from 1 (length img / 64 - 1) in

@@ -21,7 +21,7 @@ use Rattle.std.specs.Prelude.{Result, Ok, Err}
 use Rattle.format.specs.Refusal.{outcome_of}
 use Rattle.format.specs.declared.refusal.Refusal.{Refusal}
 use Rattle.writer.specs.Outcomes.{WrittenKeys, WrittenList, pairs_in}
-use Rattle.capi.proofs.Answers.{Fits}
+use Rattle.capi.proofs.Answers.{Within}
 use Rattle.edit.specs.declared.Change.{Change}
 use Rattle.edit.specs.Edit.{changed_image, edit}
 use Rattle.edit.specs.Outcomes.{EditedRight}
@@ -38,12 +38,12 @@ keys_small lift keys fits buffer n e =
     omega (arith, same, (page_bound.of_list lift keys fits q.0 q.1).size)
 
 -- so is the one that its answer holds
-pub keys_within : (lift : ℕ) (keys : List ℕ) → All (λ key. key < 2 ^ 32) keys → (buffer : List ℕ) (t : Result ℕ Refusal) (buffer' : List ℕ) → WrittenKeys (lift_question lift) lift keys buffer t buffer' → Fits t
-keys_within lift keys fits buffer (Ok n) buffer' w = omega (arith, keys_small lift keys fits buffer n (sym w.returned))
+pub keys_within : (lift : ℕ) (keys : List ℕ) → All (λ key. key < 2 ^ 32) keys → (buffer : List ℕ) (t : Result ℕ Refusal) (buffer' : List ℕ) → WrittenKeys (lift_question lift) lift keys buffer t buffer' → Within 24640 t
+keys_within lift keys fits buffer (Ok n) buffer' w = keys_small lift keys fits buffer n (sym w.returned)
 keys_within lift keys fits buffer (Err refusal) buffer' w = tt
 
 -- and to the lent list
-pub within : (lift : ℕ) (list : List Admission) (buffer : List ℕ) (t : Result ℕ Refusal) (buffer' : List ℕ) → WrittenList lift list buffer t buffer' → Fits t
+pub within : (lift : ℕ) (list : List Admission) (buffer : List ℕ) (t : Result ℕ Refusal) (buffer' : List ℕ) → WrittenList lift list buffer t buffer' → Within 24640 t
 unfolding write buffer_after_write
 within lift list buffer t buffer' w = keys_within lift (woven (pairs_in list)) (woven_fits (pairs_in list)) buffer t buffer' (record { returned = w.returned; bytes = w.bytes })
 
@@ -62,8 +62,8 @@ edit_small change img records holder slot image' records' bytes small n e =
     omega (arith, (page_bound.of_image _ c.accepted).size, (yes_of_returns _ (length (changed_image change img (key_of holder slot))) n e).1)
 
 pub edit_within : (change : Change) (img records : List ℕ) (holder slot : ℕ) (image' records' : List ℕ) → All Byte img → Admissible (holder, slot) → (t : Result ℕ Refusal) (image'' records'' : List ℕ)
-    → EditedRight change img records holder slot image' records' t image'' records'' → Fits t
-edit_within change img records holder slot image' records' bytes small (Ok n) image'' records'' d = omega (arith, edit_small change img records holder slot image' records' bytes small n (sym d.returned))
+    → EditedRight change img records holder slot image' records' t image'' records'' → Within 24640 t
+edit_within change img records holder slot image' records' bytes small (Ok n) image'' records'' d = edit_small change img records holder slot image' records' bytes small n (sym d.returned)
 edit_within change img records holder slot image' records' bytes small (Err refusal) image'' records'' d = tt
 
 -- what an edit answers and leaves in the outputs, as C gets it

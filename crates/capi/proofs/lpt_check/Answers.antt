@@ -7,6 +7,8 @@ use Rattle.capi.specs.Encoding.{encoded}
 use borrow.Author.Rules.{sfits_of}
 use Rattle.capi.proofs.lpt_check.Goals as goal
 
+-- the key count is at most 4,096,
+-- and C gets it as it is
 pub answer-requires : goal.answer-requires
 answer-requires c = check_fits _ _ c.check.ensures
 

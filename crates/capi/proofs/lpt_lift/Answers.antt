@@ -7,6 +7,8 @@ use Rattle.capi.specs.Encoding.{encoded}
 use borrow.Author.Rules.{sfits_of}
 use Rattle.capi.proofs.lpt_lift.Goals as goal
 
+-- the lift is at most 999,
+-- and C gets it as it is
 pub answer-requires : goal.answer-requires
 answer-requires c = lift_fits _ _ c.lift.ensures
 

@@ -5,13 +5,15 @@ use Prim.Native.Nat.{ℕ, ◌^◌, ◌<◌}
 use mir.Facts.{to_z-of_z}
 use Rattle.format.proofs.Lists.{all_of}
 use Rattle.capi.specs.Encoding.{encoded}
+use native.Mathlib.Omega.{arith}
+use Rattle.capi.proofs.Answers.{fits}
 use Rattle.capi.proofs.Length.{keys_within}
 use borrow.Author.Rules.{sfits_of}
 use Rattle.capi.proofs.lpt_write_keys.Goals as goal
 
 pub answer-requires : goal.answer-requires
 answer-requires c =
-    keys_within _ _ (all_of (λ (key : ℕ). key < 2 ^ 32) c.args.keys.now 0 (λ i. (c.type_inv.keys i).fits)) _ _ _ c.write_keys.ensures
+    fits 24640 (omega arith) _ (keys_within _ _ (all_of (λ (key : ℕ). key < 2 ^ 32) c.args.keys.now 0 (λ i. (c.type_inv.keys i).fits)) _ _ _ c.write_keys.ensures)
 
 pub returns : goal.returns
 returns c =
