@@ -2,8 +2,8 @@
 use crate::plain::Page;
 
 // How far a page is read: the next node of each level, counted in the page, and the out-links that were counted.
-#[derive(Drop)]
-struct Reading<'a> {
+#[derive(Clone, Copy)]
+pub struct Reading<'a> {
     page: Page<'a>,
     next: [usize; 4],
     links: usize,

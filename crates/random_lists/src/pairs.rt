@@ -2,8 +2,7 @@
 use crate::ask::at_rank;
 use crate::list::List;
 use crate::tally::{Kind, Tally};
-use answers::image_of;
-use format::Rectangle;
+use format::{MOST_BYTES, Rectangle};
 use std::alloc::{AllocError, Global};
 use testing::{Random, is_inside, rectangle};
 
@@ -42,8 +41,13 @@ fn pair(
     seed: Random,
 ) -> Result<(), AllocError> {
     let thinned = thin(alloc, list.keys, asked, seed)?;
-    let other = image_of(alloc, &thinned, 77)?;
-    let are_alike = other.is_some_and(|other| list_alike(list.image, &other, asked));
+    let mut other = [0; MOST_BYTES];
+    let are_alike = match writer::write_keys(&thinned, 77, &mut other) {
+        Ok(length) => other
+            .get(..length)
+            .is_some_and(|other| list_alike(list.image, other, asked)),
+        Err(_) => false,
+    };
     tally.expect(Kind::Pairs, are_alike);
     Ok(())
 }

@@ -128,7 +128,7 @@ impl Refusals {
     }
 }
 
-#[derive(Drop)]
+#[derive(Clone, Copy)]
 pub struct Tally {
     counts: [u32; 26],
     // The damaged images that were refused, and the eight-page lookups in damaged images.

@@ -91,7 +91,7 @@ impl<'a> Held<'a> {
 
 // The image of the keys 5, 9 and 12 for a lift, 0 for version 1.
 pub fn three_for(alloc: Global, lift: u32) -> Result<Vec<u8>, AllocError> {
-    written(alloc, &[5, 9, 12], lift)
+    written(alloc, &[5, 9, 12], lift, 576)
 }
 
 // Its records, and the counts of the lanes 1 to 8.

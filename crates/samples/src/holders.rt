@@ -9,7 +9,7 @@ use std::io;
 // The image of seven admissions, by rank: slot 10 of holder 4, slots 10 and 11 of holder 5, slot 10 of holder 6, slot 20 of holder 9, slot 500 of holder 5,
 // and slot 10 of holder 32,773, which is 5 in its lower 15 bits.
 pub fn few_holders(alloc: Global) -> Result<Vec<u8>, AllocError> {
-    written(alloc, &[100, 102, 103, 108, 402, 87346, 2147483750], 0)
+    written(alloc, &[100, 102, 103, 108, 402, 87346, 2147483750], 0, 576)
 }
 
 // The records of the ranks, and `openings` in lane 1 alone.

@@ -1,5 +1,4 @@
 // Lists and images that the cases start from, and ways to look at buffers.
-use answers::image_of;
 use std::alloc::{AllocError, Global};
 
 // The lists whose images in version 1 most cases start from.
@@ -43,9 +42,21 @@ impl Base {
         }
     }
 
+    // How many bytes its image has.
+    fn size(self) -> usize {
+        match self {
+            Base::NoKey => 64,
+            Base::OneKey | Base::TwoKeys | Base::LastKey | Base::ThreeKeys | Base::EightKeys => 576,
+            Base::TwoPages => 640,
+            Base::FivePages => 2112,
+            Base::Dense => 1536,
+            Base::FarApart => 23296,
+        }
+    }
+
     // The image for a lift, 0 for version 1.
     pub fn image_for(self, alloc: Global, lift: u32) -> Result<Vec<u8>, AllocError> {
-        written(alloc, &self.keys(alloc)?, lift)
+        written(alloc, &self.keys(alloc)?, lift, self.size())
     }
 
     pub fn image(self, alloc: Global) -> Result<Vec<u8>, AllocError> {
@@ -82,9 +93,11 @@ pub fn first(image: &[u8], n: usize) -> &[u8] {
     image.get(..n).unwrap_or(image)
 }
 
-// The image of the keys for a lift, 0 for version 1; no byte where they are refused.
-pub fn written(alloc: Global, keys: &[u32], lift: u32) -> Result<Vec<u8>, AllocError> {
-    Ok(image_of(alloc, keys, lift)?.unwrap_or(Vec::new(alloc)))
+// A buffer of `size` zeros in which the image of the keys for a lift, 0 for version 1, was written: so an image of another length shows.
+pub fn written(alloc: Global, keys: &[u32], lift: u32, size: usize) -> Result<Vec<u8>, AllocError> {
+    let mut image = vec![in alloc; 0; size]?;
+    let _written = writer::write_either(keys, lift, &mut image);
+    Ok(image)
 }
 
 // The first `n` of the keys 0, `step`, twice `step` and so on, as numbers below 2 ^ 32.
@@ -94,8 +107,7 @@ pub fn steps(alloc: Global, step: u32, n: u32) -> Result<Vec<u32>, AllocError> {
 
 // The image of 60 keys 16 apart with the last subtrie in a page of its own, where one page has room for all 240 nodes.
 pub fn early_page(alloc: Global) -> Result<Vec<u8>, AllocError> {
-    let mut image = written(alloc, &steps(alloc, 16, 60)?, 0)?;
-    image.resize(640, 0)?;
+    let mut image = written(alloc, &steps(alloc, 16, 60)?, 0, 640)?;
     change(
         &mut image,
         &[(37, 2), (575, 0), (577, 59), (579, 59), (580, 0xaa)],

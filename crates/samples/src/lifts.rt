@@ -33,8 +33,8 @@ pub fn headers(tally: &mut Tally) -> io::Result<()> {
         let image = version_2(tally.alloc, high, low, zero)?;
         refuses(tally, name, first(&image, size), refusal)?;
     }
-    accepts(tally, "lift 1", &version_2(tally.alloc, 0, 1, 0)?)?;
-    accepts(tally, "lift 999", &version_2(tally.alloc, 3, 231, 0)?)
+    accepts(tally, "lift 1", &version_2(tally.alloc, 0, 1, 0)?, 576)?;
+    accepts(tally, "lift 999", &version_2(tally.alloc, 3, 231, 0)?, 576)
 }
 
 // Whether the writer refuses the keys for a lift with 35, and leaves the buffer as lent.

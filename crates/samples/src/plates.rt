@@ -49,7 +49,7 @@ pub fn dense(tally: &mut Tally) -> io::Result<()> {
         "keys 0 to 4095: T 0, 16 to 240 and B 0, 256 to 3,840",
         are_heads(image),
     )?;
-    accepts(tally, "keys 0 to 4095: accepted", image)?;
+    accepts(tally, "keys 0 to 4095: accepted", image, 1536)?;
     let is_list = is_dense(image, &keys);
     tally.case("keys 0 to 4095: the listing is the list", is_list)
 }
@@ -151,7 +151,12 @@ pub fn far_apart(tally: &mut Tally) -> io::Result<()> {
         "keys 0, 2^20 to 4,095 x 2^20: bands 4 to 8 have 69 pages each",
         later,
     )?;
-    accepts(tally, "keys 0, 2^20 to 4,095 x 2^20: accepted", image)
+    accepts(
+        tally,
+        "keys 0, 2^20 to 4,095 x 2^20: accepted",
+        image,
+        23296,
+    )
 }
 
 // Whether the listing program prints this text for an image.

@@ -54,7 +54,7 @@ fn empty_with(keys: u8, roots: u8) -> [u8; 64] {
 
 // 7, without pages.
 pub fn empties(tally: &mut Tally) -> io::Result<()> {
-    accepts(tally, "the image of the empty list", &empty_with(0, 0))?;
+    accepts(tally, "the image of the empty list", &empty_with(0, 0), 64)?;
     let root = empty_with(0, 1);
     let key = empty_with(1, 0);
     refuses(
@@ -69,7 +69,7 @@ pub fn empties(tally: &mut Tally) -> io::Result<()> {
 // 6 and 7.
 pub fn counts(tally: &mut Tally) -> io::Result<()> {
     let mut longer = Base::OneKey.image(tally.alloc)?;
-    accepts(tally, "the image of key 0", &longer)?;
+    accepts(tally, "the image of key 0", &longer, 576)?;
     longer.push(0)?;
     let names = "6: 64 bytes of 576\n6: 575 bytes of 576\n6: one byte more\n";
     for (name, size) in names.lines().zip([64, 575, 577]) {
@@ -112,7 +112,7 @@ pub fn inputs(tally: &mut Tally) -> io::Result<()> {
 // 8 and 9.
 pub fn heads(tally: &mut Tally) -> io::Result<()> {
     let image = Base::TwoPages.image(tally.alloc)?;
-    accepts(tally, "61 subtries in two pages", &image)?;
+    accepts(tally, "61 subtries in two pages", &image, 640)?;
     let names = "\
         8: T of a band's first page\n\
         8: B of a band's first page\n\
@@ -170,8 +170,13 @@ pub fn nodes(tally: &mut Tally) -> io::Result<()> {
 // 12.
 pub fn packed(tally: &mut Tally) -> io::Result<()> {
     let alloc = tally.alloc;
-    let one_page = written(alloc, &steps(alloc, 16, 60)?, 0)?;
-    accepts(tally, "12: 60 subtries, 240 nodes in one page", &one_page)?;
+    let one_page = written(alloc, &steps(alloc, 16, 60)?, 0, 640)?;
+    accepts(
+        tally,
+        "12: 60 subtries, 240 nodes in one page",
+        &one_page,
+        576,
+    )?;
     let early = early_page(alloc)?;
     refuses(
         tally,
@@ -179,6 +184,6 @@ pub fn packed(tally: &mut Tally) -> io::Result<()> {
         &early,
         Refusal::Packing,
     )?;
-    let needed = written(alloc, &five_nodes(alloc)?, 0)?;
-    accepts(tally, "12: 236 nodes and a page for 5 more", &needed)
+    let needed = written(alloc, &five_nodes(alloc)?, 0, 640)?;
+    accepts(tally, "12: 236 nodes and a page for 5 more", &needed, 640)
 }

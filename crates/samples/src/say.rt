@@ -2,7 +2,7 @@
 use std::alloc::Global;
 use std::io::{self, Stdout};
 
-#[derive(Drop)]
+#[derive(Clone, Copy)]
 pub struct Tally {
     out: Stdout,
     // What the cases make their images with.

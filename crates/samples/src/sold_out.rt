@@ -1,7 +1,8 @@
 // Edits of long lists: the 4,096th admission and the 4,097th, pages that start and pages that vanish, and the version and the lift that stay.
 use crate::changes::{Edit, Held, THREE_RECORDS, add, three_for, withdraw};
-use crate::images::{Base, change, steps, written};
+use crate::images::{Base, change, steps};
 use crate::say::Tally;
+use answers::image_of;
 use format::Refusal;
 use std::alloc::{AllocError, Global};
 use std::io;
@@ -49,7 +50,7 @@ impl Season {
 
     // Whether an edit of this season's image for lift 5 gives the other season's.
     fn leads(&self, alloc: Global, edit: Edit, other: &Season) -> Result<bool, AllocError> {
-        let image = written(alloc, &self.keys, 5)?;
+        let image = image_of(alloc, &self.keys, 5)?.unwrap_or(Vec::new(alloc));
         let held = Held {
             image: &image,
             records: &self.records,

@@ -19,8 +19,10 @@ impl Gate {
     // The gate of holder 3, with slots 10 and 11, and holder 8, with slot 10.
     fn opened(tally: &Tally) -> io::Result<Gate> {
         let keys = [key_of(3, 10), key_of(3, 11), key_of(8, 10)];
+        let mut image = written(tally.alloc, &keys, 7, 640)?;
+        image.truncate(576);
         Ok(Gate {
-            image: written(tally.alloc, &keys, 7)?,
+            image,
             records: vec![in tally.alloc; 0; 11]?,
         })
     }
@@ -31,7 +33,7 @@ impl Gate {
         tally.case(name, is_answered)
     }
 
-    // A case: the gate with an admission more or less, of which there are then `keys`.
+    // A case: the gate with an admission more or less, of which there are then `keys`. The new records have more places than they need.
     fn edit(
         &mut self,
         tally: &mut Tally,
@@ -43,7 +45,7 @@ impl Gate {
     ) -> io::Result<()> {
         let key = key_of(holder, slot);
         let mut image = vec![in tally.alloc; 0; 640]?;
-        let mut records = vec![in tally.alloc; 0; usize::from(keys) + 8]?;
+        let mut records = vec![in tally.alloc; 0; 16]?;
         let edited = edit_key(
             change,
             &self.image,
@@ -53,6 +55,7 @@ impl Gate {
             &mut records,
         );
         image.truncate(edited.unwrap_or(0));
+        records.truncate(usize::from(keys) + 8);
         self.image = image;
         self.records = records;
         tally.case(name, edited.is_ok())
