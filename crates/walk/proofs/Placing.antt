@@ -1,7 +1,7 @@
 -- How a block lies to a rectangle, from how its holders and its slots lie to the two ranges.
 -- Assumes nothing.
 use mathlib.Core.Logic.{⊎_elim}
-use mathlib.Core.Path.{◌≡◌, sym, ap, ap₂, ◌∙◌}
+use mathlib.Core.Path.{◌≡◌, refl, sym, ap, ap₂, ◌∙◌}
 use Prim.Native.Nat.{ℕ, ◌+◌, ◌-◌, ◌*◌, ◌%◌, ◌^◌, ◌≤◌, ◌<◌}
 use native.Mathlib.Nat.{mod-eq_of_lt, pow-le-pow_right}
 use native.Mathlib.Omega.{arith}
@@ -61,10 +61,10 @@ module _ {h : ℕ} (le : h ≤ 16) where
     last-slot = ap₂ (λ (m n : ℕ). m + (n - 1)) (mod-eq_of_lt (omega (arith, slot-ends))) one_is ∙ ap (λ (m : ℕ). m * 2 ^ h + (2 ^ h - 1)) o.slot_is ∙ sym (slot_high h block.prefix le short)
 
     module _ (rectangle : Rectangle) where
-      apart_by_holder : RangeRight rectangle.holders (first_of block.holder h) (last_of block.holder h) Apart → CellApart rectangle (2 * h) block.prefix
-      apart_by_holder r =
+      pub apart_by_holder : {p : Place} → RangeRight rectangle.holders (first_of block.holder h) (last_of block.holder h) p → p ≡ Apart → CellApart rectangle (2 * h) block.prefix
+      apart_by_holder r e =
           ⊎_elim (λ (a : last_of block.holder h < rectangle.holders.low). before_holders (omega (arith, last-holder)))
-          (λ (a : rectangle.holders.high < first_of block.holder h). after_holders (omega (arith, first-holder))) r
+          (λ (a : rectangle.holders.high < first_of block.holder h). after_holders (omega (arith, first-holder))) (rw e at r)
 
       apart_by_slot : RangeRight rectangle.slots (first_of block.slot h) (last_of block.slot h) Apart → CellApart rectangle (2 * h) block.prefix
       apart_by_slot r =
@@ -79,9 +79,9 @@ module _ {h : ℕ} (le : h ≤ 16) where
       -- the block lies as its holders or its slots do, whichever lie further out
       pub further_out : (a b : Place) → RangeRight rectangle.holders (first_of block.holder h) (last_of block.holder h) a → RangeRight rectangle.slots (first_of block.slot h) (last_of block.slot h) b
           → PlaceRight rectangle (2 * h) block.prefix (ord_min cmp-value.it a b)
-      further_out Apart Apart r s = apart_by_holder r
-      further_out Apart Across r s = apart_by_holder r
-      further_out Apart Inside r s = apart_by_holder r
+      further_out Apart Apart r s = apart_by_holder r refl
+      further_out Apart Across r s = apart_by_holder r refl
+      further_out Apart Inside r s = apart_by_holder r refl
       further_out Across Apart r s = apart_by_slot s
       further_out Across Across r s = tt
       further_out Across Inside r s = tt

@@ -75,9 +75,10 @@ impl Block {
         let more = (1u32 << half) - 1;
         let holder = self.holder << half;
         let slot = self.slot << half;
-        let by_holder = range_place(rectangle.holders, holder, holder + more);
-        let by_slot = range_place(rectangle.slots, slot, slot + more);
-        by_holder.min(by_slot)
+        match range_place(rectangle.holders, holder, holder + more) {
+            Place::Apart => Place::Apart, // the slots are not asked
+            by_holder => by_holder.min(range_place(rectangle.slots, slot, slot + more)),
+        }
     }
 
     // Whether it is a key inside a rectangle.
