@@ -20,6 +20,7 @@ use Rattle.format.proofs.Jobs.{yes_of_returns}
 use Rattle.format.proofs.Checked.{checked, lift_is}
 use Rattle.format.proofs.Back.{listed}
 use Rattle.std.specs.Prelude.{IfOk, Result, Ok, Err}
+use Rattle.std.proofs.lemmas.Result.{IfOk-weaker}
 use Rattle.format.specs.Refusal.{outcome_of}
 use Rattle.format.specs.declared.refusal.Refusal.{Refusal}
 use Rattle.repair.specs.Numbers.{restored}
@@ -67,8 +68,7 @@ within_of o m f (Err refusal) e = tt
 
 -- a bound below 2 ^ 63 makes it fit
 pub fits : (m : ℕ) → m < 9223372036854775808 → (r : Result ℕ Refusal) → Within m r → Fits r
-fits m h (Ok n) w = omega (arith, w)
-fits m h (Err refusal) w = tt
+fits m h r w = IfOk-weaker r (λ n. n ≤ m) (λ n. n < 9223372036854775808) (λ n few. omega arith) w
 
 pub fits_of : (o : Outcome ℕ) (m : ℕ) → m < 9223372036854775808 → ((n : ℕ) → o ≡ returns n → n ≤ m) → (r : Result ℕ Refusal) → outcome_of r ≡ o → Fits r
 fits_of o m h f r e = fits m h r (within_of o m f r e)

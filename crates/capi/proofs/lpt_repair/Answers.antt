@@ -8,7 +8,7 @@ use Rattle.capi.specs.Encoding.{encoded}
 use borrow.Author.Rules.{sfits_of}
 use Rattle.capi.proofs.lpt_repair.Goals as goal
 
--- there are at most so many numbers to alter,
+-- a repair alters at most nine numbers and two of each page,
 -- and C gets how many as it is
 pub answer-requires : goal.answer-requires
 answer-requires c = repair_fits c.args.img.now c.args.out.now (omega (arith, c.well_formed.0.0)) _ c.repair.ensures.0
